@@ -1,0 +1,10 @@
+pub mod Order
+pub mod Ahead
+pub mod File
+pub mod Admission
+pub mod Writer
+pub mod Ending
+pub mod Sides
+pub mod Sound
+pub mod OneFile
+pub mod Views
