@@ -1,0 +1,11 @@
+pub mod Fold
+pub mod Accepting
+pub mod Accepted
+pub mod Marks
+pub mod Sides
+pub mod Givings
+pub mod Spills
+pub mod Putting
+pub mod Keeping
+pub mod Cases
+pub mod Rows
