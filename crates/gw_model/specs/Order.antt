@@ -1,5 +1,5 @@
 -- The order of writes, the fold of a list of writes, and what hangs.
-use Rattle.std.specs.Prelude.{◌≡◌, ℕ, ◌+◌, ◌-◌, ◌≤◌, max, Bool, false, not, ◌||◌, List, [], ◌∷◌, ◌++◌, map, length, drop, Option, nat_lt, nat_le, if◌then◌else◌}
+use Rattle.std.specs.Prelude.{◌≡◌, ℕ, ◌+◌, ◌-◌, ◌^◌, ◌≤◌, max, Bool, false, not, ◌||◌, List, [], ◌∷◌, ◌++◌, map, length, drop, Option, Some, None, nat_lt, nat_le, if◌then◌else◌}
 use Rattle.std.specs.List.{filter, flat_map}
 use Rattle.gw_model.specs.declared.Stable.{Stable}
 
@@ -14,6 +14,10 @@ pub record Accepted : Type 0 where
   pub ticket : Option ℕ
   pub place : Option ℕ
   pub let_go : Bool
+
+-- Where so many bytes from an offset on end, if that is in a file: below 2 ^ 63.
+abbrev pub end_within : ℕ → ℕ → Option ℕ
+end_within offset count = if nat_lt (offset + count) (2 ^ 63) then Some (offset + count) else None
 
 -- where it ends
 abbrev pub end_of : Accepted → ℕ

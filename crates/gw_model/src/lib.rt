@@ -4,12 +4,14 @@
 mod limits;
 mod object;
 mod outcome;
+mod trace;
 mod write;
 
 pub use limits::Limits;
 pub use object::{KeptObject, ObjectId};
 pub use outcome::Outcome;
-pub use write::Write;
+pub use trace::Trace;
+pub use write::{Write, end_of};
 
 /// The number of a file.
 #[derive(Clone, Copy, Debug, PartialEq, Eq, PartialOrd, Ord)]
