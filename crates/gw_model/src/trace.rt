@@ -1,6 +1,5 @@
 // The list of outcomes that a run notes.
-ghost use Rattle.std.specs.Prelude.{◌≡◌, ◌+◌, ◌<◌, ◌≤◌, [], ◌∷◌, ◌++◌, length, map, OnOk, OnErr, vec_len};
-ghost use Rattle.std.specs.Vec.{vec_capacity};
+ghost use Rattle.std.specs.Prelude.{◌≡◌, ◌+◌, ◌<◌, ◌≤◌, [], ◌∷◌, ◌++◌, length, map, IsOk, OnOk, OnErr};
 ghost use Rattle.gw_model.specs.Ahead as ahead;
 ghost use Rattle.gw_model.specs.Views.{outcome_of, nothing_noted, with_note, next_event, next_request};
 
@@ -41,7 +40,9 @@ impl Trace {
 
     /// Makes room for `calls` notes. Want of memory changes nothing.
     pub fn reserve(&mut self, calls: usize) -> Result<(), NoMemory>
-        ensures room { OnOk result (calls ≤ self.new.room) }
+        ensures ok { OnOk result (calls ≤ self.new.room) }
+        ensures grows { self.old.room ≤ self.new.room }
+        ensures succeeds { calls ≤ self.old.room → IsOk result }
         ensures rest { self.new ≡ record self.old { room = self.new.room } }
         ensures err { OnErr result (self.new ≡ self.old) }
     {
