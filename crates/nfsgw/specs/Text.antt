@@ -1,0 +1,61 @@
+-- What a run writes: replies and histories as text.
+use Rattle.std.specs.Prelude.{ℕ, ◌+◌, ◌*◌, ◌^◌, List, [], ◌∷◌, ◌++◌, length, replicate, codes, Option, Some, None}
+use Rattle.std.specs.List.{flat_map}
+use Rattle.std.specs.Fmt.{decimal}
+use Rattle.hex.specs.Hex.{encode_lower}
+use Rattle.gw_model.specs.declared.Stable.{Stable}
+use Rattle.gw_model.specs.declared.Stable.TheVariants.{Unstable, DataSync, FileSync}
+use Rattle.gw_model.specs.Ending.{Why, Closed, Removed, Restarted, Ended, Fate, Lost, Stored, Open, WriteLine, History}
+use Rattle.xdr.specs.Items.{word, long}
+
+-- the verifier of a WRITE's reply (RFC 1813 section 3.3.7): the generation, which is the first
+abbrev pub generation : ℕ
+generation = 1
+
+-- a reply in one fragment, accepted with SUCCESS and no verifier (RFC 5531 sections 9 and 11)
+unfoldable pub accepted : ℕ → List ℕ → List ℕ
+accepted xid results = word (2 ^ 31 + (24 + length results)) ++ word xid ++ word 1 ++ word 0 ++ word 0 ++ word 0 ++ word 0 ++ results
+
+abbrev pub level_word : Stable → ℕ
+level_word Unstable = 0
+level_word DataSync = 1
+level_word FileSync = 2
+
+-- WRITE3resok: no attributes, the count, how far it is committed, and the verifier (RFC 1813 section 3.3.7)
+unfoldable pub wrote_reply : ℕ → ℕ → Stable → List ℕ
+wrote_reply xid count level = accepted xid (word 0 ++ word 0 ++ word 0 ++ word count ++ word (level_word level) ++ long generation)
+
+-- WRITE3resfail: the status, and no attributes
+unfoldable pub refused_reply : ℕ → ℕ → List ℕ
+refused_reply xid status = accepted xid (word status ++ word 0 ++ word 0)
+
+unfoldable pub reply_line : ℕ → List ℕ → List ℕ
+reply_line conn bytes = codes "reply " ++ decimal conn ++ codes " " ++ encode_lower bytes ++ codes "\n"
+
+abbrev pub fate_text : Fate → List ℕ
+fate_text Lost = codes "lost"
+fate_text Stored = codes "put"
+fate_text Open = codes "open"
+
+abbrev pub place_text : Option ℕ → List ℕ
+place_text None = codes "-"
+place_text (Some start) = decimal start
+
+abbrev pub why_text : Why → List ℕ
+why_text Closed = codes "closed"
+why_text Removed = codes "removed"
+why_text Restarted = codes "restart"
+why_text Ended = codes "end"
+
+unfoldable pub context_text : ℕ → ℕ → List ℕ
+context_text file from = codes "context " ++ decimal file ++ codes " from " ++ decimal from ++ codes "\n"
+
+unfoldable pub write_text : WriteLine → List ℕ
+write_text w = codes "write " ++ decimal w.number ++ codes " " ++ decimal w.offset ++ codes " " ++ decimal w.count ++ codes " " ++ fate_text w.fate ++ codes " " ++ place_text w.place ++ codes "\n"
+
+unfoldable pub ended_text : ℕ → History → List ℕ
+ended_text file h = codes "ended " ++ decimal file ++ codes " " ++ why_text h.why ++ codes " reach " ++ decimal h.reach ++ codes " stored " ++ decimal h.stored ++ codes " synced " ++ decimal h.synced ++ codes "\n"
+
+-- the history of a context that ended
+abbrev pub history_text : ℕ → History → List ℕ
+history_text file h = context_text file h.from ++ flat_map write_text h.writes ++ ended_text file h
