@@ -2,10 +2,12 @@
 #![tactic(auto)]
 
 mod fault;
+mod laws;
 mod padding;
 mod reader;
 mod writer;
 
+pub use laws::{bool_law, fixed_law, finish_law, opaque_law, u32_law, u64_law};
 pub use fault::{NoMemory, XdrFault};
 pub use reader::Reader;
 pub use writer::Writer;
