@@ -1,0 +1,13 @@
+//! The external data representation of RFC 4506: its items are read from a message and written to one.
+#![tactic(auto)]
+
+mod fault;
+mod laws;
+mod padding;
+mod reader;
+mod writer;
+
+pub use laws::{bool_law, fixed_law, finish_law, opaque_law, u32_law, u64_law};
+pub use fault::{NoMemory, XdrFault};
+pub use reader::Reader;
+pub use writer::Writer;
