@@ -1,0 +1,68 @@
+-- What a run writes and stores, by the bytes of the transcript and the outcomes of the store's calls.
+use Rattle.std.specs.Prelude.{◌≡◌, ◌≢◌, ℕ, ◌+◌, ◌-◌, ◌^◌, ◌≤◌, min, true, false, List, [], ◌∷◌, ◌++◌, map, length, codes, Option, unwrap_or}
+use Rattle.std.specs.Io.KnownBytes.{Consumes, Appends}
+use Rattle.gw_model.specs.Ahead.{Ahead, Outcome, Done, Failed, Called, Good, Bad}
+use Rattle.transcript.specs.Script.{Script, script as script_by, AtEnd, AtOpen}
+use Rattle.transcript.specs.Writing.{IsPrefix}
+use Rattle.nfsgw.specs.Grammar.{read}
+use Rattle.nfsgw.specs.World.{Told, told_of, start}
+use Rattle.nfsgw.specs.declared.grammar.Event.{Event}
+use Rattle.nfsgw.specs.declared.status.Status.{Status}
+use Rattle.nfsgw.specs.declared.status.Status.TheVariants as status
+
+-- the words of the program's one command
+abbrev pub IsReplay : List (List ℕ) → Type 0
+IsReplay words = words ≡ codes "replay" ∷ []
+
+-- what the outside tells: what the source has left, what the sink holds, what the file's body holds, and the count of
+-- the store's faults, those of its files among them
+pub record Outside : Type 0 where
+  pub left : Option (List ℕ)
+  pub held : Option (List ℕ)
+  pub body : List ℕ
+  pub faults : ℕ
+
+-- what went in and out in a run, and what the calls on the store came to, in order
+pub record Traffic : Type 0 where
+  pub taken : List ℕ
+  pub written : List ℕ
+  pub put : List ℕ
+  pub calls : List Called
+
+abbrev pub failed_count : List Called → ℕ
+failed_count [] = 0
+failed_count (Good ∷ calls) = failed_count calls
+failed_count (Bad kept ∷ calls) = failed_count calls + 1
+
+-- the count rose by at least as many as failed, or stands at its last value
+abbrev pub Fails : List Called → ℕ → ℕ → Type 0
+Fails calls before now = min (before + failed_count calls) (2 ^ 64 - 1) ≤ now
+
+-- Where the store tells what it holds, the body grew by what was put.
+pub record Moves (tells : Type 0) (before after : Outside) (traffic : Traffic) : Type 0 where
+  pub reads : Consumes before.left after.left traffic.taken
+  pub writes : Appends before.held after.held traffic.written
+  pub puts : tells → after.body ≡ before.body ++ traffic.put
+  pub fails : Fails traffic.calls before.faults after.faults
+  pub later : before.faults ≤ after.faults
+
+abbrev pub outcome_of : Called → Outcome
+outcome_of Good = Done
+outcome_of (Bad kept) = Failed kept
+
+-- the outcomes that a run uses up
+abbrev pub ahead_of : List Called → Ahead
+ahead_of calls = record { left = map outcome_of calls; event = 0; request = 0; astray = false }
+
+abbrev pub script : List ℕ → Script Event
+script bytes = script_by read true bytes
+
+-- all that comes of a transcript, over a body that holds these bytes at first
+abbrev pub output : List ℕ → List ℕ → List Called → Told
+output body bytes calls = told_of (start body) (script bytes).events (ahead_of calls)
+
+-- Just this went out, the body holds what the definition says, and the calls are used up.
+pub record IsWhole (body bytes : List ℕ) (stopped : Type 0) (traffic : Traffic) : Type 0 where
+  pub text : (output body bytes traffic.calls).text ≡ traffic.written
+  pub content : (output body bytes traffic.calls).body ≡ body ++ traffic.put
+  pub ahead : (output body bytes traffic.calls).ahead ≡ ahead_of []
