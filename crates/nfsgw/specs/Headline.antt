@@ -1,5 +1,5 @@
 -- What a run writes and stores, by the bytes of the transcript and the outcomes of the store's calls.
-use Rattle.std.specs.Prelude.{◌≡◌, ◌≢◌, ℕ, ◌+◌, ◌-◌, ◌^◌, ◌≤◌, min, true, false, List, [], ◌∷◌, ◌++◌, map, length, codes, Option, unwrap_or}
+use Rattle.std.specs.Prelude.{◌≡◌, ◌≢◌, ℕ, ◌+◌, ◌-◌, ◌^◌, ◌≤◌, min, Bool, true, false, List, [], ◌∷◌, ◌++◌, map, length, codes, Option, unwrap_or}
 use Rattle.std.specs.Io.KnownBytes.{Consumes, Appends}
 use Rattle.gw_model.specs.Ahead.{Ahead, Outcome, Done, Failed, Called, Good, Bad}
 use Rattle.transcript.specs.Script.{Script, script as script_by, AtEnd, AtOpen}
@@ -62,7 +62,37 @@ abbrev pub output : List ℕ → List ℕ → List Called → Told
 output body bytes calls = told_of (start body) (script bytes).events (ahead_of calls)
 
 -- Just this went out, the body holds what the definition says, and the calls are used up.
-pub record IsWhole (body bytes : List ℕ) (stopped : Type 0) (traffic : Traffic) : Type 0 where
+pub record IsWhole (body bytes : List ℕ) (stopped : Bool) (traffic : Traffic) : Type 0 where
   pub text : (output body bytes traffic.calls).text ≡ traffic.written
   pub content : (output body bytes traffic.calls).body ≡ body ++ traffic.put
+  pub stop : (output body bytes traffic.calls).stopped ≡ stopped
   pub ahead : (output body bytes traffic.calls).ahead ≡ ahead_of []
+
+-- A front of it went out, whatever later calls would have come to.
+abbrev pub IsFront : List ℕ → Traffic → Told → Type 0
+IsFront body traffic told = IsPrefix traffic.written told.text × IsPrefix (body ++ traffic.put) told.body
+
+abbrev pub IsShort : List ℕ → List ℕ → Traffic → Type 0
+IsShort body bytes traffic = (later : List Called) → IsFront body traffic (output body bytes (traffic.calls ++ later))
+
+abbrev pub nothing : Traffic
+nothing = record { taken = []; written = []; put = []; calls = [] }
+
+-- What went in and out, by the status. `whole` is what was taken and what the source has left.
+abbrev pub IsRun : Status → List ℕ → List ℕ → Traffic → Type 0
+IsRun status.Done body whole traffic = ((script whole).stop ≡ AtEnd) × IsWhole body whole false traffic
+IsRun (status.BadLine n) body whole traffic = ((script whole).stop ≢ AtEnd) × (n ≡ length (script whole).events + 1) × IsWhole body whole false traffic
+IsRun status.ReadFault body whole traffic = ((script traffic.taken).stop ≡ AtOpen) × IsWhole body traffic.taken false traffic
+IsRun status.StoreFault body whole traffic = IsWhole body traffic.taken true traffic
+IsRun status.WriteFault body whole traffic = IsShort body traffic.taken traffic
+IsRun status.NoMemory body whole traffic = IsShort body traffic.taken traffic
+IsRun status.Usage body whole traffic = traffic ≡ nothing
+
+-- The headline: bytes were read, written and put, and they are a run over what the body held. A source that tells
+-- nothing counts as one that has nothing left; of a store that tells nothing some body of that length explains the run.
+pub record Runs (tells : Type 0) (status : Status) (before after : Outside) : Type 0 where
+  pub traffic : Traffic
+  pub moves : Moves tells before after traffic
+  pub body : List ℕ
+  pub told : tells → before.body ≡ body
+  pub run : IsRun status body (traffic.taken ++ unwrap_or after.left []) traffic
