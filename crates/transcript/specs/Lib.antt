@@ -1,0 +1,5 @@
+pub mod Script
+pub mod Held
+pub mod Assembly
+pub mod Fields
+pub mod Writing

@@ -1,0 +1,24 @@
+// What the definitions come to. Each function says it in its contract, and does nothing.
+ghost use Rattle.std.specs.Prelude.{◌≡◌, ◌≤◌, ◌<◌, ◌^◌, ◌+◌, ◌++◌, ◌∷◌, List, ℕ, Some, decimal};
+ghost use Rattle.transcript.specs.Fields.{number_of};
+ghost use Rattle.transcript.specs.Script.{AtBad, AtOpen, BeginsTooLong, IsPart, Reading, line_then, max_lines, script_from, stops};
+
+/// A field is read as the number that prints it, and each number as what is printed of it.
+pub fn number_law()
+    ensures read_as { (bits : ℕ) (text : List ℕ) (n : ℕ) → number_of bits text ≡ Some n
+        → (text ≡ decimal n) × (n < 2 ^ bits) }
+    ensures printed { (bits n : ℕ) → bits ≤ 64 → n < 2 ^ bits → number_of bits (decimal n) ≡ Some n }
+{}
+
+/// The script of bytes by what they begin with, for any grammar and after any number of lines.
+pub fn script_laws<G, E>()
+    ensures line { (read : G → List ℕ → Reading G E) (grammar : G) (before : ℕ) (line rest : List ℕ) → before < max_lines → IsPart line
+        → script_from read grammar before (line ++ 10 ∷ rest)
+        ≡ line_then (read grammar line) (λ later. script_from read later (before + 1) rest) }
+    ensures long { (read : G → List ℕ → Reading G E) (grammar : G) (before : ℕ) (bytes more : List ℕ) → BeginsTooLong bytes
+        → script_from read grammar before (bytes ++ more) ≡ stops AtBad }
+    ensures late { (read : G → List ℕ → Reading G E) (grammar : G) (before : ℕ) (bytes : List ℕ) → max_lines ≤ before
+        → script_from read grammar before bytes ≡ stops AtBad }
+    ensures part { (read : G → List ℕ → Reading G E) (grammar : G) (before : ℕ) (bytes : List ℕ) → before < max_lines → IsPart bytes
+        → script_from read grammar before bytes ≡ stops AtOpen }
+{}
