@@ -1,5 +1,5 @@
 -- The writer side of an open file: the turn and the sync.
-use Rattle.std.specs.Prelude.{ℕ, ◌+◌, max, Bool, true, false, not, ◌&&◌, List, [], ◌∷◌, ◌++◌, map, length, take, drop, Option, Some, None, nat_lt, nat_le, ◌==◌}
+use Rattle.std.specs.Prelude.{ℕ, ◌+◌, max, min, Bool, true, false, not, ◌&&◌, List, [], ◌∷◌, ◌++◌, map, length, take, drop, Option, Some, None, nat_lt, nat_le, ◌==◌}
 use Rattle.gw_model.specs.declared.Stable.{Stable}
 use Rattle.gw_model.specs.Order.{fold}
 use Rattle.gw_model.specs.Ahead.{Called, Ahead, Good, Bad, next_call, refused, past_refusal}
@@ -24,10 +24,14 @@ abbrev written : Bool → Option ℕ → ℕ → Stable → Writer → Ahead →
 written true ticket count level w t = told w (answer_if ticket (Wrote count level)) t
 written false ticket count level w t = told (owe_if ticket (Wrote count level) w) [] t
 
--- by what the append did
-abbrev appended : Called → ℕ → Option ℕ → ℕ → Stable → Writer → Ahead → WriterStep
-appended Good to ticket asked level w t = written (is_unstable level) ticket asked level (record w { stored = max w.stored to }) t
-appended (Bad kept) to ticket asked level w t = told (record w { stored = w.stored + kept; failed = Some (record { stored = w.stored + kept; kept = kept }) }) (answer_if ticket (NotWritten io)) t
+-- an append failed, and kept so many bytes
+abbrev lost : ℕ → Option ℕ → Writer → Ahead → WriterStep
+lost kept ticket w t = told (record w { stored = w.stored + kept; failed = Some (record { stored = w.stored + kept; kept = kept }) }) (answer_if ticket (NotWritten io)) t
+
+-- by what the append did, of so many bytes from a place on; one that failed kept at most all of them
+abbrev appended : Called → ℕ → ℕ → Option ℕ → ℕ → Stable → Writer → Ahead → WriterStep
+appended Good start len ticket asked level w t = written (is_unstable level) ticket asked level (record w { stored = max w.stored (start + len) }) t
+appended (Bad kept) start len ticket asked level w t = lost (min kept len) ticket w t
 
 -- the bytes of a range
 abbrev pub range_of : ℕ → ℕ → List ℕ → List ℕ
@@ -60,7 +64,7 @@ fetch offset count all ticket w t = fetch_if (refused t) (nat_lt offset w.stored
 -- a job on a working writer
 abbrev work : Task → List ℕ → Option ℕ → Writer → Ahead → WriterStep
 work (Put number start [] asked level place) all ticket w t = written (is_unstable level) ticket asked level w t
-work (Put number start (b ∷ bytes) asked level place) all ticket w t = (let c = next_call t in appended c.called (start + length (b ∷ bytes)) ticket asked level w c.ahead)
+work (Put number start (b ∷ bytes) asked level place) all ticket w t = (let c = next_call t in appended c.called start (length (b ∷ bytes)) ticket asked level w c.ahead)
 work (Compare offset bytes level) all ticket w t = (let c = next_call t in compared c.called (same_bytes bytes (range_of offset (length bytes) all)) ticket (length bytes) level w c.ahead)
 work (Fetch offset count) all ticket w t = fetch offset count all ticket w t
 work Settle all ticket w t = told (owe_if ticket Committed w) [] t

@@ -4,4 +4,3 @@ pub mod World
 pub mod Grammar
 pub mod Headline
 pub mod Steps
-pub mod Progress

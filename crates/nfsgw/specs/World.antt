@@ -129,7 +129,7 @@ turn_in None w t = still w t
 turn_in (Some f) w t = of_step w (turn f t)
 
 unfoldable pub next : World → Event → Ahead → Turned
-next w (MakeFile name) t = let c = next_call t in made c.called w c.ahead
+next w MakeFile t = let c = next_call t in made c.called w c.ahead
 next w (Write conn call) t = do_write (ask conn call.xid w) (request (w.issued + 1) call) t
 next w Turn t = turn_in w.opened w t
 
