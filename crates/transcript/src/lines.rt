@@ -40,8 +40,9 @@ impl Model for Lines {
     ghost Value = { Held };
 
     ghost view = { λ l. record {
-        line = take l.line_length (drop l.line_start l.buffer.items);
-        pending = take (l.end - l.start) (drop l.start l.buffer.items) } };
+      line = take l.line_length (drop l.line_start l.buffer.items);
+      pending = take (l.end - l.start) (drop l.start l.buffer.items);
+    } };
 
     ghost invariant = { λ l. (l.line_start + l.line_length ≤ vec_len l.buffer) × (l.start ≤ l.scanned) × (l.scanned ≤ l.end) × (l.end ≤ vec_len l.buffer)
         × HasNoFeed (take (l.scanned - l.start) (drop l.start l.buffer.items)) };
@@ -136,6 +137,7 @@ impl Lines {
         ensures cause { result ≡ Fill.ReadFault → Rose (S.count source.old) (S.count source.new) }
     {
         move_to_front(&mut self.buffer, self.start, self.end);
+        self.line_start = 0;
         self.line_length = 0;
         self.scanned -= self.start;
         self.end -= self.start;
