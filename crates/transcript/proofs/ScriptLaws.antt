@@ -1,10 +1,10 @@
 -- How a script begins, by what its bytes begin with.
-use Rattle.std.proofs.Common.{◌≡◌, ◌≢◌, ℕ, suc, ◌+◌, ◌<◌, ◌≤◌, ◌&&◌, ◌==◌, nat_lt, nat_le, Bool, true, false, cond, List, [], ◌∷◌, ◌++◌, length, All, refl, sym, ◌∙◌, ap, append_assoc, length-append, arith}
-use Rattle.std.specs.List.{slice_split, onto_first}
+use Rattle.std.proofs.Common.{◌≡◌, ℕ, ◌+◌, ◌<◌, ◌≤◌, true, false, List, [], ◌∷◌, ◌++◌, length, refl, ◌∙◌, ap, append_assoc, length-append, arith}
+use Rattle.std.specs.List.{onto_first}
 use Rattle.std.proofs.lemmas.List.Splits.{slice_split_at, slice_split_none, slice_split-cons_no, length-slice_split}
 use Rattle.std.proofs.lemmas.List.Elements.{All-head, All-tail}
 use Rattle.std.proofs.lemmas.Bool.Decides.{nat_tests}
-use Rattle.transcript.specs.Script.{Reading, Script, parts, is_feed, script_of, script_from, may_be_line, max_line, max_lines, line_then, stops, AtBad, AtOpen, HasNoFeed, BeginsTooLong, IsPart}
+use Rattle.transcript.specs.Script.{Reading, parts, is_feed, script_of, script_from, may_be_line, max_line, max_lines, line_then, stops, AtBad, AtOpen, HasNoFeed, BeginsTooLong, IsPart, TakesLine}
 
 cons_of : (xs : List (List ℕ)) → 0 < length xs → (p : List ℕ) × (ps : List (List ℕ)) × (xs ≡ p ∷ ps)
 cons_of [] h = absurd (omega arith)
@@ -62,6 +62,13 @@ pub script_line : {G E : Type 0} (read : G → List ℕ → Reading G E) (gramma
 script_line read grammar before line rest h part =
     ap (script_of read grammar before) (parts_line line rest part.no_feed)
     ∙ first_line read grammar before line (parts rest) (parts_some rest) (may_be before line h part.short)
+
+-- the same of a line that was taken off the bytes, whatever comes after them
+pub script_takes : {G E : Type 0} (read : G → List ℕ → Reading G E) (grammar : G) (before : ℕ) (line old new more : List ℕ) → before < max_lines → TakesLine line old new
+    → script_from read grammar before (old ++ more) ≡ line_then (read grammar line) (λ later. script_from read later (before + 1) (new ++ more))
+script_takes read grammar before line old new more h taken =
+    let whole : old ++ more ≡ line ++ 10 ∷ (new ++ more) = ap (λ x. x ++ more) taken.whole ∙ append_assoc line (10 ∷ new) more in
+    ap (script_from read grammar before) whole ∙ script_line read grammar before line (new ++ more) h taken.part
 
 -- bytes that begin too long are bad, whatever comes after them
 pub script_long : {G E : Type 0} (read : G → List ℕ → Reading G E) (grammar : G) (before : ℕ) (bytes more : List ℕ) → BeginsTooLong bytes

@@ -1,8 +1,8 @@
-use Rattle.std.proofs.Common.{◌≡◌, ◌<◌, ◌≤◌, ◌-◌, ◌++◌, length, take, drop, false, sym, arith, length-drop}
+use Rattle.std.proofs.Common.{◌≡◌, length, take, drop, false, arith}
 use Rattle.std.proofs.lemmas.List.{take_rest, take_all, take-append-drop}
 use Rattle.std.proofs.lemmas.List.Elements.{All-append}
 use Rattle.std.proofs.Math.Seq.{take-add}
-use Rattle.transcript.specs.Script.{HasNoFeed, is_feed}
+use Rattle.transcript.specs.Script.{is_feed}
 use Rattle.transcript.proofs.Feeds.{clear_passed}
 use Rattle.transcript.proofs.buffer.next_feed.Goals as goal
 

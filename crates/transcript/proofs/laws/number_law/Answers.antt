@@ -1,4 +1,3 @@
-use Rattle.std.proofs.Common.{arith}
 use Rattle.transcript.proofs.Numbers.{number_of-some, number_of-decimal, below_word}
 use Rattle.transcript.proofs.laws.number_law.Goals as goal
 

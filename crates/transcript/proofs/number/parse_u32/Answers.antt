@@ -1,4 +1,4 @@
-use Rattle.std.proofs.Common.{◌≡◌, sym, arith}
+use Rattle.std.proofs.Common.{sym, arith}
 use Rattle.transcript.proofs.Numbers.{number_of-small, number_of-large, number_of-neither}
 use Rattle.transcript.proofs.number.parse_u32.Goals as goal
 

@@ -1,4 +1,4 @@
-use Rattle.std.proofs.Common.{◌≡◌, sym, ◌≤◌, length, get_or, arith, rules}
+use Rattle.std.proofs.Common.{◌≡◌, sym, ◌≤◌, length, get_or}
 use Rattle.transcript.proofs.Numbers.{number_of-plain, not_a_number, not_long_zero, not_utf8, not_parsed}
 use Rattle.transcript.proofs.number.parse_u64.Goals as goal
 use Rattle.transcript.proofs.number.parse_u64.Goals.{else-text-eq48-via-then-text-eq48+else-text-gt1, else-text-eq48-via-else-text-eq48}

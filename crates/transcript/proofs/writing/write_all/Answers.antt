@@ -1,4 +1,4 @@
-use Rattle.std.proofs.Common.{◌+◌, ◌≤◌, length, arith, rules, take, length-drop, length-take}
+use Rattle.std.proofs.Common.{arith, length-drop, length-take}
 use Rattle.transcript.proofs.Fronts.{one_more_write, front_kept}
 use Rattle.transcript.proofs.writing.write_all.Goals as goal
 

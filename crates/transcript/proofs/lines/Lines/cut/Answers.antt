@@ -1,4 +1,4 @@
-use Rattle.std.proofs.Common.{◌≡◌, ◌+◌, ◌-◌, List, ℕ, refl, take, drop, subst, ap, arith}
+use Rattle.std.proofs.Common.{◌+◌, ◌-◌, List, ℕ, refl, take, drop, subst, ap, arith}
 use Rattle.transcript.specs.Script.{TakesLine}
 use Rattle.transcript.proofs.Feeds.{takes_line}
 use Rattle.transcript.proofs.lines.Lines.cut.Goals as goal

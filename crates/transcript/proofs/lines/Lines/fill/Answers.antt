@@ -1,4 +1,4 @@
-use Rattle.std.proofs.Common.{◌≡◌, ◌+◌, ◌-◌, ◌∙◌, ℕ, List, length, take, drop, sym, ap, arith, length-take, length-drop}
+use Rattle.std.proofs.Common.{◌-◌, ◌∙◌, take, drop, ap, arith, length-take, length-drop}
 use Rattle.transcript.proofs.Feeds.{clear_kept, read_more}
 use Rattle.transcript.proofs.lines.Lines.fill.Goals as goal
 
