@@ -1,0 +1,4 @@
+pub mod Numbers
+pub mod ScriptLaws
+pub mod Feeds
+pub mod Fronts

@@ -1,5 +1,5 @@
 -- What the line assembler answers, by the bytes that it holds before and after.
-use Rattle.std.specs.Prelude.{◌≡◌, ℕ, ◌<◌, ◌≤◌, List, [], ◌++◌, length, Option}
+use Rattle.std.specs.Prelude.{◌≡◌, ℕ, ◌<◌, List, [], ◌++◌, length, Option}
 use Rattle.std.specs.Io.KnownBytes.{IsAtEnd}
 use Rattle.transcript.specs.Script.{BeginsTooLong, IsPart, TakesLine}
 use Rattle.transcript.specs.declared.lines.Cut.{Cut}

@@ -1,5 +1,5 @@
 // The room that lines are read into.
-ghost use Rattle.std.specs.Prelude.{◌≡◌, ◌+◌, ◌-◌, ◌<◌, ◌≤◌, List, ℕ, ◌∷◌, ◌++◌, length, take, drop, vec_len, IfSome, IfNone, IfOk, OnOk, MatchResult};
+ghost use Rattle.std.specs.Prelude.{◌≡◌, ◌+◌, ◌-◌, ◌<◌, ◌≤◌, List, ℕ, ◌∷◌, ◌++◌, length, take, drop, vec_len, IfSome, IfNone, IfOk, OnOk, MatchResult, IsTrue};
 ghost use Rattle.std.specs.Io.KnownBytes.{Consumes, IsAtEnd, Keeps};
 ghost use Rattle.gw_outside.specs.Causes.{HasCause};
 ghost use Rattle.transcript.specs.Script.{HasNoFeed, max_line};
@@ -65,6 +65,7 @@ pub(crate) fn read_behind<S: Source>(
     ensures bytes { MatchResult result
         (λ n. Consumes (S.left source.old) (S.left source.new) (take n (drop end buffer.new.items)) × (n ≡ 0 → IsAtEnd (S.left source.new)))
         (λ _. Keeps (S.left source.old) (S.left source.new)) }
+    ensures ended { IfOk result (λ n. n ≡ 0 → IsTrue (S.ended source.new)) }
     ensures cause { HasCause (S.count source.old) (S.count source.new) result }
 {
     source.read(&mut buffer[end..])

@@ -1,7 +1,7 @@
 // What the definitions come to. Each function says it in its contract, and does nothing.
 ghost use Rattle.std.specs.Prelude.{◌≡◌, ◌≤◌, ◌<◌, ◌^◌, ◌+◌, ◌++◌, ◌∷◌, List, ℕ, Some, decimal};
 ghost use Rattle.transcript.specs.Fields.{number_of};
-ghost use Rattle.transcript.specs.Script.{AtBad, AtOpen, BeginsTooLong, IsPart, Reading, line_then, max_lines, script_from, stops};
+ghost use Rattle.transcript.specs.Script.{AtBad, AtOpen, BeginsTooLong, IsPart, Reading, TakesLine, line_then, max_lines, script_from, stops};
 
 /// A field is read as the number that prints it, and each number as what is printed of it.
 pub fn number_law()
@@ -15,6 +15,9 @@ pub fn script_laws<G, E>()
     ensures line { (read : G → List ℕ → Reading G E) (grammar : G) (before : ℕ) (line rest : List ℕ) → before < max_lines → IsPart line
         → script_from read grammar before (line ++ 10 ∷ rest)
         ≡ line_then (read grammar line) (λ later. script_from read later (before + 1) rest) }
+    ensures takes { (read : G → List ℕ → Reading G E) (grammar : G) (before : ℕ) (line old new more : List ℕ) → before < max_lines → TakesLine line old new
+        → script_from read grammar before (old ++ more)
+        ≡ line_then (read grammar line) (λ later. script_from read later (before + 1) (new ++ more)) }
     ensures long { (read : G → List ℕ → Reading G E) (grammar : G) (before : ℕ) (bytes more : List ℕ) → BeginsTooLong bytes
         → script_from read grammar before (bytes ++ more) ≡ stops AtBad }
     ensures late { (read : G → List ℕ → Reading G E) (grammar : G) (before : ℕ) (bytes : List ℕ) → max_lines ≤ before

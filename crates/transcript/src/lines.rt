@@ -1,5 +1,5 @@
 // Lines out of the pieces that a source hands out.
-ghost use Rattle.std.specs.Prelude.{◌≡◌, ◌≤◌, List, ℕ, length};
+ghost use Rattle.std.specs.Prelude.{◌≡◌, ◌≤◌, List, ℕ, length, IsTrue};
 ghost use Rattle.std.specs.Io.KnownBytes.{Consumes};
 ghost use Rattle.gw_outside.specs.Causes.{Rose};
 ghost use Rattle.transcript.specs.Script.{max_line};
@@ -40,8 +40,9 @@ impl Model for Lines {
     ghost Value = { Held };
 
     ghost view = { λ l. record {
-        line = take l.line_length (drop l.line_start l.buffer.items);
-        pending = take (l.end - l.start) (drop l.start l.buffer.items) } };
+      line = take l.line_length (drop l.line_start l.buffer.items);
+      pending = take (l.end - l.start) (drop l.start l.buffer.items);
+    } };
 
     ghost invariant = { λ l. (l.line_start + l.line_length ≤ vec_len l.buffer) × (l.start ≤ l.scanned) × (l.scanned ≤ l.end) × (l.end ≤ vec_len l.buffer)
         × HasNoFeed (take (l.scanned - l.start) (drop l.start l.buffer.items)) };
@@ -132,10 +133,12 @@ impl Lines {
         requires { length self.old.pending ≤ max_line }
         ensures bytes { (taken : List ℕ) × Consumes (S.left source.old) (S.left source.new) taken
             × IsFilled result self.old.pending self.new.pending taken (S.left source.new) }
+        ensures ended { result ≡ Fill.AtEnd → IsTrue (S.ended source.new) }
         ensures later { S.count source.old ≤ S.count source.new }
         ensures cause { result ≡ Fill.ReadFault → Rose (S.count source.old) (S.count source.new) }
     {
         move_to_front(&mut self.buffer, self.start, self.end);
+        self.line_start = 0;
         self.line_length = 0;
         self.scanned -= self.start;
         self.end -= self.start;
@@ -157,6 +160,7 @@ impl Lines {
     pub fn next<S: Source>(&mut self, source: &mut S) -> Next
         ensures bytes { (taken : List ℕ) × Consumes (S.left source.old) (S.left source.new) taken
             × IsNext result self.new.line self.old.pending self.new.pending taken (S.left source.new) }
+        ensures ended { result ≡ Next.AtEnd → IsTrue (S.ended source.new) }
         ensures later { S.count source.old ≤ S.count source.new }
         ensures cause { result ≡ Next.ReadFault → Rose (S.count source.old) (S.count source.new) }
     {
