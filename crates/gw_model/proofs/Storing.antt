@@ -1,18 +1,17 @@
 -- The admission side leaves the writer; what is stored ends where the Puts done end; and the next Put appends there.
-use Rattle.std.proofs.Common.{◌≡◌, ℕ, ◌+◌, ◌≤◌, max, Bool, true, false, List, [], ◌∷◌, ◌++◌, map, length, take, Option, None, Some, is_some, nat_lt, refl, sym, ◌∙◌, ap, subst, append_assoc, append-nil, length-append, arith}
+use Rattle.std.proofs.Common.{◌≡◌, ℕ, ◌+◌, max, Bool, true, false, List, [], ◌∷◌, ◌++◌, map, length, take, Option, None, Some, is_some, nat_lt, refl, sym, ◌∙◌, ap, subst, append_assoc, append-nil, length-append, arith}
 use Rattle.std.proofs.lemmas.Grind.{flat_map-append}
 use Rattle.std.proofs.lemmas.List.{take-append-le}
 use Rattle.std.proofs.Math.Seq.{take-append_seam, take-append-add}
 use Rattle.gw_model.specs.declared.Stable.{Stable}
-use Rattle.gw_model.specs.declared.Hull.{Hull}
 use Rattle.gw_model.specs.declared.limits.Limits.{Limits}
 use Rattle.gw_model.specs.Order.{Accepted, Piece, pieces, joined, fold, in_order, standing}
 use Rattle.gw_model.specs.Ahead.{Ahead, Called, Good, Bad, next_call, refused}
-use Rattle.gw_model.specs.File.{Task, Put, Compare, Fetch, Settle, Job, File, Step, Cause, Append, Spill, Failure, Phase, Live, Stale, Writer, Body, Answer, side_of, opened, content, ready_weight, is_spilled}
-use Rattle.gw_model.specs.Admission.{WriteRequest, CommitRequest, ReadRequest, Verdict, Barred, Busy, Compared, Again, Taken, Repeat, Differs, Unanswered, Answered, Takes, repeat_of, again, again_by, again_if, again_read, again_at, accept, judge_write, write, write_if, write_by, CommitVerdict, CommitBarred, CommitBusy, Waits, Settles, judge_commit, commit, commit_if, commit_by, read, read_if, SpillVerdict, Leaves, Moves, judge_spill, spill, spill_if, spill_by, spilled, turn_stale, hear, hear_in, join_to_top, with_held, with_lists, Stop, Rests, Breaks, pump_lists, pump_end, pump_with, is_unstable, same_bytes}
+use Rattle.gw_model.specs.File.{Task, Put, Compare, Fetch, Settle, Job, File, Failure, Phase, Live, Stale, Writer, side_of, content, ready_weight}
+use Rattle.gw_model.specs.Admission.{WriteRequest, Verdict, Barred, Busy, Compared, Again, Taken, Repeat, Differs, Unanswered, Answered, Takes, repeat_of, again_by, again_if, again_read, again_at, accept, judge_write, write, write_if, write_by, CommitVerdict, CommitBarred, CommitBusy, Waits, Settles, judge_commit, commit, commit_if, commit_by, read, read_if, SpillVerdict, Leaves, Moves, judge_spill, spill, spill_if, spill_by, spilled, turn_stale, hear, hear_in, with_held, with_lists, Stop, Rests, Breaks, pump_lists, pump_end, pump_with, is_unstable, same_bytes}
 use Rattle.gw_model.specs.Writer.{WriterStep, written, appended, compared, fetched, fetch_if, fetch, work, fail, do_by, do_job, turn, turn_if, turn_in, turned, room, sync, sync_writer, synced, range_of}
 use Rattle.gw_model.specs.Ending.{give_up}
-use Rattle.gw_model.specs.Sound.{plain, piece_of, pieces_of, issued, IsIssued, IsStored, IsContiguous, SameWriter}
+use Rattle.gw_model.specs.Sound.{plain, piece_of, pieces_of, IsIssued, IsStored, IsContiguous, SameWriter}
 use Rattle.gw_model.specs.Laws.{WriteLeavesWriter, CommitLeavesWriter, ReadLeavesWriter, SpillLeavesWriter, PumpLeavesWriter, StaleLeavesWriter, GiveUpLeavesWriter, OpenStores, TurnStores, SyncStores, SameStores, PutAppends}
 use Rattle.gw_model.proofs.Putting.{pieces_of-append, walk_contiguous, start_of}
 

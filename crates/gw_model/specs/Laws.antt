@@ -1,10 +1,8 @@
 -- Laws of the definitions of one file, in the words of the subject.
 use Rattle.std.specs.Prelude.{◌≡◌, ℕ, ◌+◌, ◌≤◌, true, false, List, [], ◌∷◌, ◌++◌, length, take, Option, None}
-use Rattle.std.specs.List.{filter}
 use Rattle.gw_model.specs.declared.Stable.{Stable}
 use Rattle.gw_model.specs.declared.Hull.{Hull}
 use Rattle.gw_model.specs.declared.limits.Limits.{Limits}
-use Rattle.std.specs.Prelude.{nat_lt}
 use Rattle.gw_model.specs.Order.{Accepted, Piece, put_in, walk, pieces, fold, reach, hung, kept, let_go_above, beyond, reach_past, IsWellFormed, IsWellFormedAfter}
 use Rattle.gw_model.specs.Ahead.{Ahead, refused}
 use Rattle.gw_model.specs.File.{Cause, Failure, File, Job, Put, content, opened}

@@ -8,7 +8,7 @@ use Rattle.gw_model.specs.Ahead.{Ahead, Outcome, Called, Good, Bad, next_call, r
 use Rattle.gw_model.specs.File.{Body, Wrote, NotWritten, Committed, NotCommitted, Gave, NotGiven, SystemErr, Silence, Answer, File, Step, opened, content}
 use Rattle.gw_model.specs.Admission.{io, hull_bars, write, commit, read, pump, spill}
 use Rattle.gw_model.specs.Writer.{turn, sync, range_of}
-use Rattle.gw_model.specs.Ending.{Ticked, Stays, GivesUp, Closes, tick_verdict, give_up, Closing, close, Closed, Ended, History, history_of}
+use Rattle.gw_model.specs.Ending.{Ticked, Stays, GivesUp, Closes, tick_verdict, give_up, close, Closed, Ended, History, history_of}
 
 -- A WRITE, a COMMIT, a READ, or a step. A request has a ticket.
 pub data Event : Type 0 where
