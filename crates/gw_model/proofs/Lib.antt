@@ -6,6 +6,7 @@ pub mod Sides
 pub mod Givings
 pub mod Spills
 pub mod Turning
+pub mod Covering
 pub mod Putting
 pub mod Keeping
 pub mod Storing

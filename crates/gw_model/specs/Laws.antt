@@ -1,12 +1,13 @@
 -- Laws of the definitions of one file, in the words of the subject.
-use Rattle.std.specs.Prelude.{◌≡◌, ℕ, ◌+◌, ◌≤◌, true, false, List, [], ◌∷◌, ◌++◌, length, take, Option, None}
+use Rattle.std.specs.Prelude.{◌≡◌, ℕ, ◌+◌, ◌<◌, ◌≤◌, ◌&&◌, nat_le, nat_lt, true, false, List, [], ◌∷◌, ◌++◌, length, take, Option, None}
 use Rattle.gw_model.specs.declared.Stable.{Stable}
 use Rattle.gw_model.specs.declared.Hull.{Hull}
 use Rattle.gw_model.specs.declared.limits.Limits.{Limits}
-use Rattle.gw_model.specs.Order.{Accepted, Piece, put_in, walk, pieces, fold, reach, hung, kept, let_go_above, beyond, reach_past, IsWellFormed, IsWellFormedAfter}
+use Rattle.std.specs.List.{list_any}
+use Rattle.gw_model.specs.Order.{Accepted, end_of, standing, covers, Piece, put_in, walk, pieces, fold, reach, hung, kept, let_go_above, beyond, reach_past, IsWellFormed, IsWellFormedAfter}
 use Rattle.gw_model.specs.Ahead.{Ahead, refused}
 use Rattle.gw_model.specs.File.{Cause, Failure, File, Job, Put, content, opened}
-use Rattle.gw_model.specs.Admission.{WriteRequest, CommitRequest, ReadRequest, write, commit, read, spill, pump_with, turn_stale, no_memory}
+use Rattle.gw_model.specs.Admission.{goal_of, WriteRequest, CommitRequest, ReadRequest, write, commit, read, spill, pump_with, turn_stale, no_memory}
 use Rattle.gw_model.specs.Writer.{turn, sync}
 use Rattle.gw_model.specs.Ending.{give_up}
 use Rattle.gw_model.specs.Sound.{IsIssued, IsStored, SameWriter}
@@ -45,6 +46,14 @@ PiecesAdded = (base : List ℕ) (ws : List Accepted) (w : Accepted) → w.let_go
 abbrev pub HungLeft : Type 0
 HungLeft = (base : List ℕ) (ws : List Accepted) (w : Accepted) → w.let_go ≡ false → reach base ws ≤ w.offset
     → (hung base (ws ++ w ∷ []) ≡ beyond (reach base ws) (put_in w (hung base ws))) × (reach base (ws ++ w ∷ []) ≡ reach_past (reach base ws) (put_in w (hung base ws)))
+
+-- Each byte of a write that stands and begins at or below reach is below reach.
+abbrev pub StandingBelowReach : Type 0
+StandingBelowReach = (base : List ℕ) (ws : List Accepted) (n : ℕ) → list_any (λ w. nat_le w.offset (reach base ws) && nat_lt n (end_of w)) (standing ws) ≡ true → n < reach base ws
+
+-- Once reach has come to the goal of a COMMIT, each position that it covers is below reach, but for writes let go.
+abbrev pub CoveredAtGoal : Type 0
+CoveredAtGoal = (base : List ℕ) (ws : List Accepted) (limit n later : ℕ) → covers limit (standing ws) n ≡ true → goal_of limit (hung base ws) ≤ later → reach base ws ≤ later → n < later
 
 -- The jobs.
 

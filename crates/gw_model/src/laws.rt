@@ -1,12 +1,13 @@
 // What the definitions of one file mean: laws that hold of them, each a clause. The functions do nothing.
-ghost use Rattle.gw_model.specs.Laws.{FoldGrows, ReachGrows, LetGoChangesNoByte, LetGoLeavesNone, AcceptKeepsForm, LetGoKeepsForm, PiecesAdded, HungLeft};
+ghost use Rattle.gw_model.specs.Laws.{FoldGrows, ReachGrows, LetGoChangesNoByte, LetGoLeavesNone, AcceptKeepsForm, LetGoKeepsForm, PiecesAdded, HungLeft, StandingBelowReach, CoveredAtGoal};
 ghost use Rattle.gw_model.specs.Laws.{OpenIssues, WriteIssues, CommitIssues, ReadIssues, TurnIssues, SyncIssues, SpillIssues, PumpIssues, StaleIssues, GiveUpIssues, PieceFollows};
 ghost use Rattle.gw_model.specs.Laws.{WriteLeavesWriter, CommitLeavesWriter, ReadLeavesWriter, SpillLeavesWriter, PumpLeavesWriter, StaleLeavesWriter, GiveUpLeavesWriter, OpenStores, TurnStores, SyncStores, SameStores, PutAppends};
 ghost use Rattle.gw_model.specs.Laws.{WriteRefused, CommitRefused, ReadRefused};
 ghost use Rattle.gw_model.specs.Sides.{OpenLaw, WriteLaw, CommitLaw, ReadLaw, TurnLaw, SyncLaw, SpillLaw, PumpLaw, PumpAllLaw, StaleLaw, GiveUpLaw};
 
 /// The order, the fold and what hangs: a longer list of accepted writes has a fold that begins with the old one,
-/// letting hung writes go changes no byte, and both keep a list well formed.
+/// letting hung writes go changes no byte, and both keep a list well formed. What a COMMIT covers is below reach once
+/// reach has come to its goal.
 pub fn fold_laws()
     ensures grows { FoldGrows }
     ensures reach { ReachGrows }
@@ -16,6 +17,8 @@ pub fn fold_laws()
     ensures let_go_keeps { LetGoKeepsForm }
     ensures added { PiecesAdded }
     ensures hung { HungLeft }
+    ensures below { StandingBelowReach }
+    ensures covered { CoveredAtGoal }
 {}
 
 /// In every file that events lead to, the Puts issued are the pieces of the fold, in order.
