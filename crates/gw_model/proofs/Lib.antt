@@ -5,7 +5,10 @@ pub mod Marks
 pub mod Sides
 pub mod Givings
 pub mod Spills
+pub mod Turning
+pub mod Covering
 pub mod Putting
 pub mod Keeping
+pub mod Storing
 pub mod Cases
 pub mod Rows

@@ -10,12 +10,18 @@ use Rattle.gw_model.specs.Ahead.{Called, Ahead, Good, Bad, next_call, refused, p
 use Rattle.gw_model.specs.declared.limits.Limits.{Limits}
 use Rattle.gw_model.specs.File.{Task, Put, Compare, Fetch, Settle, Job, Waiting, Body, Wrote, NotWritten, NotCommitted, NotGiven, SystemErr, Silence, Answer, Failure, Cause, Append, Spill, Phase, Live, Stale, Held, File, Side, side_of, entry_of, Step, reach_of, pending, top_of, is_spilled, ready_weight, memory_weight, settle_count, is_fetch, is_stale, is_empty}
 
--- NFS statuses
+-- Statuses of RFC 1813 section 2.6: NFS3ERR_IO, NFS3ERR_INVAL, NFS3ERR_FBIG, NFS3ERR_STALE and NFS3ERR_JUKEBOX.
 abbrev pub io : ℕ
 io = 5
 
 abbrev pub inval : ℕ
 inval = 22
+
+abbrev pub fbig : ℕ
+fbig = 27
+
+abbrev pub stale_file : ℕ
+stale_file = 70
 
 abbrev pub jukebox : ℕ
 jukebox = 10008
@@ -246,7 +252,7 @@ abbrev pub write_if : Bool → Limits → File → WriteRequest → Ahead → St
 write_if true limits f q t = no_memory f q.ticket t
 write_if false limits f q t = write_by (judge_write limits (side_of f) q) limits f q t
 
--- A WRITE of an open file, of 1 to 1,048,576 bytes and an end below 2 ^ 63.
+-- A WRITE (RFC 1813 section 3.3.7) of an open file, of 1 to 1,048,576 bytes and with an end below 2 ^ 63.
 unfoldable pub write : Limits → File → WriteRequest → Ahead → Step
 write limits f q t = write_if (refused t) limits f q t
 
@@ -284,6 +290,7 @@ abbrev pub commit_if : Bool → Limits → File → CommitRequest → Ahead → 
 commit_if true limits f q t = no_memory f q.ticket t
 commit_if false limits f q t = commit_by (judge_commit limits (side_of f) q.limit) limits f q t
 
+-- A COMMIT (RFC 1813 section 3.3.21) of an open file.
 unfoldable pub commit : Limits → File → CommitRequest → Ahead → Step
 commit limits f q t = commit_if (refused t) limits f q t
 
@@ -293,6 +300,7 @@ read_if true busy limits f q t = no_memory f q.ticket t
 read_if false true limits f q t = at_once (with_held f (used_at limits q.moment f.held)) q.ticket (NotGiven jukebox) t
 read_if false false limits f q t = held (with_held f (used_at limits q.moment (issue (job (Fetch q.offset (min q.count (2 ^ 20))) (Some q.ticket) ∷ []) f.held))) t
 
+-- A READ (RFC 1813 section 3.3.6) of an open file.
 unfoldable pub read : Limits → File → ReadRequest → Ahead → Step
 read limits f q t = read_if (refused t) (nat_lt limits.ready_cap (ready_weight f.held.ready + 1024)) limits f q t
 
@@ -428,7 +436,7 @@ job_extent _ = []
 abbrev pub extents : Side → List (ℕ × ℕ)
 extents s = flat_map (λ w. extent_at w.place w.asked) s.seen.pending ++ flat_map (λ j. job_extent j.task) s.held.ready
 
--- until holes are used again: behind the last extent placed since the region was last empty
+-- extents lie behind one another: a new one begins where the last one ended that was placed since the region was last empty
 abbrev pub place_for : Limits → Side → ℕ → Option ℕ
 place_for limits s len =
     let start = if is_empty (extents s) then 0 else s.held.placed in
@@ -481,5 +489,6 @@ abbrev pub spill_if : Bool → Limits → File → Ahead → Step
 spill_if true limits f t = held f (past_refusal t)
 spill_if false limits f t = spill_by (judge_spill limits (side_of f)) f t
 
+-- A spill step: the last entry in memory goes to the device where the memory weight is above the mark.
 unfoldable pub spill : Limits → File → Ahead → Step
 spill limits f t = spill_if (refused t) limits f t

@@ -1,6 +1,6 @@
 -- The order of writes, the fold of a list of writes, and what hangs.
-use Rattle.std.specs.Prelude.{◌≡◌, ℕ, ◌+◌, ◌-◌, ◌^◌, ◌≤◌, max, Bool, false, not, ◌||◌, List, [], ◌∷◌, ◌++◌, map, length, drop, Option, Some, None, nat_lt, nat_le, if◌then◌else◌}
-use Rattle.std.specs.List.{filter, flat_map}
+use Rattle.std.specs.Prelude.{◌≡◌, ℕ, ◌+◌, ◌-◌, ◌^◌, ◌≤◌, max, Bool, false, not, ◌&&◌, ◌||◌, List, [], ◌∷◌, ◌++◌, map, length, drop, Option, Some, None, nat_lt, nat_le, if◌then◌else◌}
+use Rattle.std.specs.List.{filter, flat_map, list_any}
 use Rattle.gw_model.specs.declared.Stable.{Stable}
 
 -- An accepted write. Its number is its place in the list of all accepted ones, from 1. Its bytes are those
@@ -108,3 +108,7 @@ reach_past n (w ∷ ws) = if nat_le w.offset n then reach_past (n + length (drop
 abbrev pub first_reached : ℕ → List Accepted → Bool
 first_reached n [] = false
 first_reached n (w ∷ ws) = nat_le w.offset n
+
+-- A COMMIT with this limit covers the position: it lies below the limit, in a write that was accepted before.
+abbrev pub covers : ℕ → List Accepted → ℕ → Bool
+covers limit ws n = nat_lt n limit && list_any (λ w. nat_le w.offset n && nat_lt n (end_of w)) ws

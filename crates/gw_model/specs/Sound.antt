@@ -2,7 +2,7 @@
 use Rattle.std.specs.Prelude.{◌≡◌, ℕ, ◌+◌, false, true, List, [], ◌∷◌, ◌++◌, map, length, None}
 use Rattle.std.specs.List.{flat_map}
 use Rattle.gw_model.specs.declared.Stable.TheVariants.{Unstable}
-use Rattle.gw_model.specs.Order.{Piece, pieces}
+use Rattle.gw_model.specs.Order.{Piece, pieces, joined}
 use Rattle.gw_model.specs.File.{Task, Put, Job, File, is_stale}
 
 -- a piece without what a later ticket or place may change in its write
@@ -26,6 +26,16 @@ pub record IsIssued (f : File) : Type 0 where
   pub order : pieces_of (issued f) ≡ map plain (pieces f.base f.accepted)
   pub fresh : is_stale f.held.phase ≡ false → f.struck ≡ []
   pub none_left : is_stale f.held.phase ≡ true → pieces_of f.held.ready ≡ []
+
+-- On a working writer, what is stored ends where the Puts that were done end.
+abbrev pub IsStored : File → Type 0
+IsStored f = f.writer.failed ≡ None → f.writer.stored ≡ length f.base + length (joined (pieces_of f.done))
+
+-- The second file has the writer, the jobs done and the bytes at opening of the first.
+pub record SameWriter (f g : File) : Type 0 where
+  pub base : g.base ≡ f.base
+  pub done : g.done ≡ f.done
+  pub writer : g.writer ≡ f.writer
 
 -- each piece begins where the one before it ends
 abbrev pub IsContiguous : ℕ → List Piece → Type 0

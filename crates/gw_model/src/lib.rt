@@ -1,12 +1,14 @@
 //! The vocabulary of the gateway, and the rules of one file as definitions.
 #![tactic(auto)]
 
+mod laws;
 mod limits;
 mod object;
 mod outcome;
 mod trace;
 mod write;
 
+pub use laws::{fold_laws, memory_laws, side_laws, step_laws, writer_laws};
 pub use limits::Limits;
 pub use object::{KeptObject, ObjectId};
 pub use outcome::Outcome;

@@ -29,3 +29,15 @@ pub fn end_of(offset: u64, count: u32) -> Option<u64>
     let end = offset.checked_add(u64::from(count))?;
     if end < FILE_LIMIT { Some(end) } else { None }
 }
+
+#[cfg(test)]
+mod tests {
+    use super::*;
+
+    #[test]
+    fn ends_stay_below_the_limit(rt: HostRuntime) {
+        assert_eq!(rt; end_of(9223372036854775802, 5), Some(9223372036854775807));
+        assert_eq!(rt; end_of(9223372036854775803, 5), None);
+        assert_eq!(rt; end_of(u64::MAX, u32::MAX), None);
+    }
+}

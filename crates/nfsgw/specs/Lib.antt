@@ -4,3 +4,6 @@ pub mod World
 pub mod Grammar
 pub mod Headline
 pub mod Steps
+pub mod Replies
+pub mod Packed
+pub mod Outside

@@ -6,8 +6,8 @@ use Rattle.gw_model.specs.Ending.{Fate, Lost, Stored, Open, WriteLine, Ended, Hi
 use Rattle.nfsgw.specs.Text.{wrote_reply, refused_reply, reply_line, context_text, write_text, ended_text}
 use Rattle.nfsgw.specs.World.{fbig, notsupp}
 use Rattle.nfsgw.specs.declared.call.WriteCall.{WriteCall}
-use Rattle.nfsgw.specs.declared.world.Range.{Range}
-use Rattle.nfsgw.specs.declared.world.HeldWrite.{HeldWrite}
+use Rattle.nfsgw.specs.declared.open_file.Range.{Range}
+use Rattle.nfsgw.specs.declared.open_file.HeldWrite.{HeldWrite}
 use Rattle.nfsgw.specs.declared.grammar.Event.{Event}
 use Rattle.nfsgw.specs.declared.grammar.Event.TheVariants.{MakeFile, Write, Turn}
 
@@ -98,11 +98,14 @@ step_of base s Turn t = turn_of s t
 
 -- history
 
-abbrev pub fate_of : Context → Range → Fate
-fate_of c r = if nat_lt c.stored (r.offset + r.count) then (if c.failed then Lost else Open) else Stored
+abbrev pub fate_by : Bool → ℕ → Range → Fate
+fate_by failed stored r = if nat_lt stored (r.offset + r.count) then (if failed then Lost else Open) else Stored
+
+abbrev pub range_by : Bool → ℕ → ℕ → Range → WriteLine
+range_by failed stored number r = record { number = number; offset = r.offset; count = r.count; fate = fate_by failed stored r; place = None }
 
 abbrev pub range_line : Context → ℕ → Range → WriteLine
-range_line c number r = record { number = number; offset = r.offset; count = r.count; fate = fate_of c r; place = None }
+range_line c number r = range_by c.failed c.stored number r
 
 abbrev pub range_lines : Context → ℕ → List Range → List ℕ
 range_lines c number [] = []

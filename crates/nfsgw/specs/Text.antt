@@ -12,9 +12,10 @@ use Rattle.xdr.specs.Items.{word, long}
 abbrev pub generation : ℕ
 generation = 1
 
--- a reply in one fragment, accepted with SUCCESS and no verifier (RFC 5531 sections 9 and 11)
-unfoldable pub accepted : ℕ → List ℕ → List ℕ
-accepted xid results = word (2 ^ 31 + (24 + length results)) ++ word xid ++ word 1 ++ word 0 ++ word 0 ++ word 0 ++ word 0 ++ results
+-- what comes before the results of so many bytes: the mark of one fragment, the xid, REPLY, MSG_ACCEPTED, no verifier and
+-- SUCCESS (RFC 5531 sections 9 and 11)
+unfoldable pub accepted_head : ℕ → ℕ → List ℕ
+accepted_head xid count = word (2 ^ 31 + (24 + count)) ++ word xid ++ word 1 ++ word 0 ++ word 0 ++ word 0 ++ word 0
 
 abbrev pub level_word : Stable → ℕ
 level_word Unstable = 0
@@ -23,14 +24,18 @@ level_word FileSync = 2
 
 -- WRITE3resok: no attributes, the count, how far it is committed, and the verifier (RFC 1813 section 3.3.7)
 unfoldable pub wrote_reply : ℕ → ℕ → Stable → List ℕ
-wrote_reply xid count level = accepted xid (word 0 ++ word 0 ++ word 0 ++ word count ++ word (level_word level) ++ long generation)
+wrote_reply xid count level = accepted_head xid 28 ++ word 0 ++ word 0 ++ word 0 ++ word count ++ word (level_word level) ++ long generation
 
 -- WRITE3resfail: the status, and no attributes
 unfoldable pub refused_reply : ℕ → ℕ → List ℕ
-refused_reply xid status = accepted xid (word status ++ word 0 ++ word 0)
+refused_reply xid status = accepted_head xid 12 ++ word status ++ word 0 ++ word 0
 
-unfoldable pub reply_line : ℕ → List ℕ → List ℕ
-reply_line conn bytes = codes "reply " ++ decimal conn ++ codes " " ++ encode_lower bytes ++ codes "\n"
+-- a line of the output with bytes in hex digits
+unfoldable pub hex_line : ℕ → List ℕ → List ℕ
+hex_line conn digits = codes "reply " ++ decimal conn ++ codes " " ++ digits ++ codes "\n"
+
+abbrev pub reply_line : ℕ → List ℕ → List ℕ
+reply_line conn bytes = hex_line conn (encode_lower bytes)
 
 abbrev pub fate_text : Fate → List ℕ
 fate_text Lost = codes "lost"

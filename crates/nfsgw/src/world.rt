@@ -1,19 +1,36 @@
-// What a run keeps: the context of the file, and the writes that are held.
-use bytes::Bytes;
+// What a run keeps of the world, and what each event makes of it.
+use crate::open_file::OpenFile;
+use gw_model::ObjectId;
+use std::marker::Model;
 
-/// The range of an accepted write.
-#[derive(Clone, Copy, Debug, PartialEq, Eq)]
-pub struct Range {
-    /// In bytes, from the file's first.
-    pub offset: u64,
-    /// 1 to 1,048,576 bytes.
-    pub count: u32,
+/// The body of the one file.
+pub const BODY: ObjectId = ObjectId::Body {
+    file: 4,
+    version: 1,
+};
+
+/// What came of an event.
+#[derive(Drop)]
+pub enum Stepped {
+    /// What the event writes.
+    Text(String),
+    /// The `file` line's call on the store failed.
+    StoreFault,
+    NoMemory,
 }
 
-/// An accepted write whose turn hasn't come.
-#[derive(Debug, Drop)]
-pub struct HeldWrite {
-    pub conn: u32,
-    pub xid: u32,
-    pub content: Bytes,
+/// The context of the file, once it was opened.
+#[derive(Drop)]
+pub struct World {
+    context: Option<OpenFile>,
 }
+
+impl Model for World {
+    ghost use Rattle.std.specs.Prelude.{Option};
+    ghost use Rattle.nfsgw.specs.Steps.{Context};
+
+    ghost Value = { Option Context };
+
+    ghost view = { λ w. w.context };
+}
+

@@ -1,0 +1,80 @@
+-- What the store and the file that is out tell, and what a step of the program leaves of it.
+use Rattle.std.specs.Prelude.{◌≡◌, ℕ, ◌+◌, ◌≤◌, Bool, true, false, List, [], ◌++◌, length, Option, Some, None, string_bytes}
+use Rattle.gw_model.specs.declared.object.ObjectId.{ObjectId}
+use Rattle.gw_model.specs.declared.object.ObjectId.TheVariants.{Body}
+use Rattle.gw_model.specs.Ahead.{Called}
+use Rattle.append_store.specs.State.{ObjectState, Lent, IsThere, IsAway, bytes_of}
+use Rattle.nfsgw.specs.Headline.{Fails, ahead_of}
+use Rattle.nfsgw.specs.Steps.{Context, step_of}
+use Rattle.nfsgw.specs.declared.grammar.Event.{Event}
+use Rattle.nfsgw.specs.declared.grammar.Event.TheVariants.{MakeFile, Write, Turn}
+use Rattle.nfsgw.specs.declared.world.Stepped.{Stepped}
+use Rattle.nfsgw.specs.declared.world.Stepped.TheVariants as stepped
+
+-- the body of the one file
+abbrev pub body_id : ObjectId
+body_id = Body 4 1
+
+-- the body's bytes: those in the store, or those of the file that is out
+abbrev pub body_at : ObjectState → Option (List ℕ) → List ℕ
+body_at s None = bytes_of s
+body_at s (Some content) = content
+
+-- the store's faults and those of the file that is out
+abbrev pub faults_at : ℕ → Option ℕ → ℕ
+faults_at n None = n
+faults_at n (Some m) = n + m
+
+-- The file that was taken is out; else the body isn't out.
+abbrev pub Safe : Type 0 → ObjectState → Option ObjectId → Type 0
+Safe tells s None = tells → IsAway s → ⊥
+Safe tells s (Some mark) = tells → s ≡ Lent mark
+
+-- The file that was taken is out; else the body is there.
+abbrev pub Home : Type 0 → ObjectState → Option ObjectId → Type 0
+Home tells s None = tells → IsThere s
+Home tells s (Some mark) = tells → s ≡ Lent mark
+
+-- what an event needs: the `file` line comes before the file is taken
+abbrev pub IsReady : Type 0 → Event → ObjectState → Option ObjectId → Type 0
+IsReady tells MakeFile s mark = (mark ≡ None) × Safe tells s mark
+IsReady tells (Write conn call) s mark = Home tells s mark
+IsReady tells Turn s mark = Home tells s mark
+
+-- a write has at most 1 MiB
+abbrev pub IsSmall : Event → Type 0
+IsSmall (Write conn call) = length call.content ≤ 1048576
+IsSmall _ = Unit {0}
+
+-- the program keeps a context of a body that held so many bytes
+abbrev pub Fits : ℕ → Option Context → Type 0
+Fits base None = Unit {0}
+Fits base (Some c) = c.base ≡ base
+
+-- from a body of so many bytes, where the program kept no context, it came to this, and put these bytes
+abbrev pub Opens : ℕ → Option Context → Option Context → List ℕ → Type 0
+Opens n None None put = put ≡ []
+Opens n None (Some d) put = d.base ≡ n
+Opens n (Some c) None put = ⊥
+Opens n (Some c) (Some d) put = d.base ≡ c.base
+
+-- A step: the calls that it made and the bytes that it put, whatever calls come later.
+pub record IsStep (tells : Type 0) (event : Event) (old new : Option Context) (text : List ℕ) (stopped : Bool) (body body' : List ℕ) (faults faults' : ℕ) : Type 0 where
+  pub calls : List Called
+  pub put : List ℕ
+  pub next : (base : ℕ) (later : List Called) → Fits base new
+      → step_of base old event (ahead_of (calls ++ later)) ≡ record { state = new; text = text; put = put; stopped = stopped; ahead = ahead_of later }
+  pub fits : (base : ℕ) → Fits base new → Fits base old
+  pub opens : tells → Opens (length body) old new put
+  pub puts : tells → body' ≡ body ++ put
+  pub fails : Fails calls faults faults'
+  pub later : faults ≤ faults'
+
+pub record Untouched (tells : Type 0) (body body' : List ℕ) (faults faults' : ℕ) : Type 0 where
+  pub puts : tells → body' ≡ body
+  pub later : faults ≤ faults'
+
+abbrev pub IsStepped : Type 0 → Stepped → Event → Option Context → Option Context → List ℕ → List ℕ → ℕ → ℕ → Type 0
+IsStepped tells (stepped.Text text) event old new body body' faults faults' = IsStep tells event old new (string_bytes text) false body body' faults faults'
+IsStepped tells stepped.StoreFault event old new body body' faults faults' = IsStep tells event old new [] true body body' faults faults'
+IsStepped tells stepped.NoMemory event old new body body' faults faults' = Untouched tells body body' faults faults'

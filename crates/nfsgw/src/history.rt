@@ -1,0 +1,61 @@
+// The lines of a history.
+ghost use Rattle.std.specs.Prelude.{◌≡◌, ◌++◌, OnOk, string_bytes};
+ghost use Rattle.gw_model.specs.Ending.{Ended};
+ghost use Rattle.nfsgw.specs.Text.{context_text, write_text, ended_text, fate_text};
+ghost use Rattle.nfsgw.specs.Steps.{fate_by, range_by};
+
+use crate::open_file::Range;
+use std::alloc::AllocError;
+use std::fmt::Write;
+
+/// The file of the transcript.
+const FILE: u64 = 4;
+
+/// The first line of the history of a context that began with `base` bytes.
+#[tactic(auto, unfolding(crate::specs::Text::context_text))]
+pub fn push_context(out: &mut String, base: u64) -> Result<(), AllocError>
+    ensures { OnOk result (string_bytes out.new ≡ string_bytes out.old ++ context_text 4 base) }
+{
+    write!(out, "context {FILE} from {base}\n")
+}
+
+/// What became of a range, when so many bytes are stored.
+fn fate(range: Range, stored: u64, failed: bool) -> &'static str
+    ensures { result.now ≡ fate_text (fate_by failed stored range) }
+{
+    if u128::from(range.offset) + u128::from(range.count) <= u128::from(stored) {
+        "put"
+    } else if failed {
+        "lost"
+    } else {
+        "open"
+    }
+}
+
+/// The line of an accepted write, by its number from 1.
+#[tactic(auto, unfolding(crate::specs::Text::write_text))]
+pub fn push_write(
+    out: &mut String,
+    number: u64,
+    range: Range,
+    stored: u64,
+    failed: bool,
+) -> Result<(), AllocError>
+    ensures { OnOk result (string_bytes out.new ≡ string_bytes out.old ++ write_text (range_by failed stored number range)) }
+{
+    let fate = fate(range, stored, failed);
+    write!(out, "write {number} {} {} {fate} -\n", range.offset, range.count)
+}
+
+/// The last line of a history at the end of a transcript.
+#[tactic(auto, unfolding(crate::specs::Text::ended_text))]
+pub fn push_ended(
+    out: &mut String,
+    reach: u64,
+    stored: u64,
+    synced: u64,
+) -> Result<(), AllocError>
+    ensures { OnOk result (string_bytes out.new ≡ string_bytes out.old ++ ended_text 4 (record { from = synced; writes = []; why = Ended; reach = reach; stored = stored; synced = synced })) }
+{
+    write!(out, "ended {FILE} end reach {reach} stored {stored} synced {synced}\n")
+}

@@ -1,0 +1,117 @@
+// Replies to WRITE, and their lines of the output.
+ghost use Rattle.std.specs.Prelude.{◌≡◌, ◌++◌, IfOk, OnOk, string_bytes};
+ghost use Rattle.gw_model.specs.declared.Stable.TheVariants.{Unstable};
+ghost use Rattle.nfsgw.specs.Text.{accepted_head, wrote_reply, refused_reply, hex_line, reply_line};
+ghost use Rattle.nfsgw.specs.Steps.{refusal as refusal_line};
+ghost use Rattle.nfsgw.specs.Replies.{status_of as status_number};
+
+use std::alloc::{AllocError, Global};
+use std::fmt::Write;
+use xdr::{NoMemory, Writer};
+
+/// What a WRITE is refused with, by the statuses of NFS version 3 (RFC 1813 section 2.6).
+#[derive(Clone, Copy, Debug, PartialEq, Eq)]
+pub enum Refusal {
+    /// `NFS3ERR_IO`.
+    Io,
+    /// `NFS3ERR_FBIG`.
+    TooBig,
+    /// `NFS3ERR_NOTSUPP`.
+    NotSupported,
+}
+
+/// The verifier of the first generation.
+const VERIFIER: u64 = 1;
+
+/// The number of a status on the wire.
+fn status_of(refusal: Refusal) -> u32
+    ensures { result ≡ status_number refusal }
+{
+    match refusal {
+        Refusal::Io => 5,
+        Refusal::TooBig => 27,
+        Refusal::NotSupported => 10_004,
+    }
+}
+
+/// What comes before the results of `count` bytes: the record mark, and the head of an accepted reply.
+#[tactic(auto, unfolding(crate::specs::Text::accepted_head))]
+fn put_head(reply: &mut Writer, xid: u32, count: u32) -> Result<(), NoMemory>
+    requires { count ≤ 28 }
+    ensures { OnOk result (reply.new ≡ reply.old ++ accepted_head xid count) }
+{
+    reply.put_u32(0x8000_0000 + (24 + count))?;
+    reply.put_u32(xid)?;
+    reply.put_u32(1)?;
+    reply.put_u32(0)?;
+    reply.put_u32(0)?;
+    reply.put_u32(0)?;
+    reply.put_u32(0)
+}
+
+/// The reply to an UNSTABLE write of `count` bytes that was done.
+#[tactic(auto, unfolding(crate::specs::Text::wrote_reply))]
+fn wrote_bytes(alloc: Global, xid: u32, count: u32) -> Result<Vec<u8>, NoMemory>
+    ensures { IfOk result (λ reply. reply.items ≡ wrote_reply xid count Unstable) }
+{
+    let mut reply = Writer::new(alloc);
+    put_head(&mut reply, xid, 28)?;
+    reply.put_u32(0)?;
+    reply.put_u32(0)?;
+    reply.put_u32(0)?;
+    reply.put_u32(count)?;
+    reply.put_u32(0)?;
+    reply.put_u64(VERIFIER)?;
+    Ok(reply.into_vec())
+}
+
+/// The reply to a write that is refused.
+#[tactic(auto, unfolding(crate::specs::Text::refused_reply))]
+fn refused_bytes(alloc: Global, xid: u32, status: u32) -> Result<Vec<u8>, NoMemory>
+    ensures { IfOk result (λ reply. reply.items ≡ refused_reply xid status) }
+{
+    let mut reply = Writer::new(alloc);
+    put_head(&mut reply, xid, 12)?;
+    reply.put_u32(status)?;
+    reply.put_u32(0)?;
+    reply.put_u32(0)?;
+    Ok(reply.into_vec())
+}
+
+#[tactic(auto, unfolding(crate::specs::Text::hex_line))]
+fn push_line(out: &mut String, conn: u32, digits: &str) -> Result<(), AllocError>
+    ensures { OnOk result (string_bytes out.new ≡ string_bytes out.old ++ hex_line conn digits.now) }
+{
+    write!(out, "reply {conn} {digits}\n")
+}
+
+/// The output's line of a reply.
+fn line(alloc: Global, conn: u32, reply: &[u8]) -> Result<String, AllocError>
+    ensures { IfOk result (λ text. string_bytes text ≡ reply_line conn reply.now) }
+{
+    let digits = hex::encode(alloc, reply)?;
+    let mut out = String::new(alloc);
+    push_line(&mut out, conn, digits.as_str())?;
+    Ok(out)
+}
+
+/// The line of the reply to an UNSTABLE write of `count` bytes that was done. Takes memory.
+pub fn wrote(alloc: Global, conn: u32, xid: u32, count: u32) -> Result<String, AllocError>
+    ensures { IfOk result (λ text. string_bytes text ≡ reply_line conn (wrote_reply xid count Unstable)) }
+{
+    let reply = wrote_bytes(alloc, xid, count).map_err(|_| AllocError)?;
+    line(alloc, conn, &reply)
+}
+
+/// The line of the reply to a write that is refused. Takes memory.
+pub fn refused(
+    alloc: Global,
+    conn: u32,
+    xid: u32,
+    refusal: Refusal,
+) -> Result<String, AllocError>
+    ensures { IfOk result (λ text. string_bytes text ≡ refusal_line conn xid (status_number refusal)) }
+{
+    let reply = refused_bytes(alloc, xid, status_of(refusal)).map_err(|_| AllocError)?;
+    line(alloc, conn, &reply)
+}
