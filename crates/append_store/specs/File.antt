@@ -1,0 +1,79 @@
+-- A file in memory, as contracts see it, and what its calls do.
+use Rattle.std.specs.Prelude.{◌≡◌, ◌⊎◌, ◌+◌, ◌-◌, ◌^◌, min, ℕ, List, [], Option, Some, None, is_some, Result, Ok, Err}
+use Rattle.gw_model.specs.declared.object.ObjectId.{ObjectId}
+use Rattle.gw_outside.specs.Causes.{raised, count_after}
+use Rattle.append_store.specs.Plan.{due_of}
+use Rattle.append_store.specs.declared.mem_file.MemFile.{MemFile}
+use Rattle.append_store.specs.declared.mem_file.Planned.{Planned}
+use Rattle.append_store.specs.declared.store.AppendFault.{AppendFault}
+
+-- the object and its bytes, how many of them are durable, the calls of the object that are to
+-- fail, how many of its calls were counted, and the two numbers of faults
+pub record FileState : Type 0 where
+  pub object : ObjectId
+  pub content : List ℕ
+  pub durable : ℕ
+  pub plan : List Planned
+  pub calls : ℕ
+  pub planned : ℕ
+  pub starved : ℕ
+
+abbrev pub shown : MemFile → FileState
+shown f = record { object = f.object; content = f.bytes.items; durable = f.durable; plan = f.plan.items; calls = f.calls; planned = f.planned; starved = f.starved }
+
+-- the faults of a file in memory: both numbers together, up to the greatest u64
+abbrev pub file_count : FileState → ℕ
+file_count f = min (f.planned + f.starved) (2 ^ 64 - 1)
+
+-- what is planned for the next counted call
+abbrev pub next_due : FileState → Option ℕ
+next_due f = due_of f.plan (raised f.calls)
+
+-- a named append keeps the lesser of what its entry says and the piece; a growth that finds no
+-- memory keeps nothing, and makes any append fail; another one is done
+abbrev pub AppendOutcome : {T : Type 0} → Option ℕ → ℕ → ℕ → ℕ → Result T AppendFault → Type 0
+AppendOutcome None size starved starved' (Ok x) = starved' ≡ starved
+AppendOutcome None size starved starved' (Err e) = (starved' ≡ raised starved) × (e.kept ≡ 0)
+AppendOutcome (Some kept) size starved starved' (Ok x) = ⊥
+AppendOutcome (Some kept) size starved starved' (Err e) = ((starved' ≡ starved) × (e.kept ≡ min kept size)) ⊎ ((starved' ≡ raised starved) × (e.kept ≡ 0))
+
+-- an append of so many bytes is counted, and makes nothing durable
+pub record AppendsAsPlanned {T : Type 0} (old new : FileState) (size : ℕ) (result : Result T AppendFault) : Type 0 where
+  pub durable : new.durable ≡ old.durable
+  pub plan : new.plan ≡ old.plan
+  pub calls : new.calls ≡ raised old.calls
+  pub planned : new.planned ≡ count_after old.planned (is_some (next_due old))
+  pub outcome : AppendOutcome (next_due old) size old.starved new.starved result
+
+-- a call was counted, with its planned failure
+pub record IsDue (old new : MemFile) (kept : Option ℕ) : Type 0 where
+  pub object : new.object ≡ old.object
+  pub bytes : new.bytes ≡ old.bytes
+  pub durable : new.durable ≡ old.durable
+  pub plan : new.plan ≡ old.plan
+  pub calls : new.calls ≡ raised old.calls
+  pub due : kept ≡ next_due (shown old)
+  pub planned : new.planned ≡ count_after old.planned (is_some kept)
+  pub starved : new.starved ≡ old.starved
+
+-- nothing is there, and no call was counted
+pub record IsFresh (file : FileState) (entries : List Planned) : Type 0 where
+  pub content : file.content ≡ []
+  pub durable : file.durable ≡ 0
+  pub plan : file.plan ≡ entries
+  pub calls : file.calls ≡ 0
+
+pub record IsEmptied (old new : FileState) : Type 0 where
+  pub content : new.content ≡ []
+  pub durable : new.durable ≡ 0
+  pub plan : new.plan ≡ old.plan
+  pub calls : new.calls ≡ old.calls
+
+pub record IsHandedOut (old new : FileState) (name : ObjectId) : Type 0 where
+  pub object : new.object ≡ name
+  pub content : new.content ≡ old.content
+  pub durable : new.durable ≡ old.durable
+  pub plan : new.plan ≡ old.plan
+  pub calls : new.calls ≡ old.calls
+  pub planned : new.planned ≡ 0
+  pub starved : new.starved ≡ 0

@@ -1,0 +1,82 @@
+-- What a store in memory has under a name, and what one call does there.
+use Rattle.std.specs.Prelude.{◌≡◌, ℕ, Bool, true, false, is_none, List, [], Option, Some, None}
+use Rattle.gw_model.specs.declared.object.ObjectId.{ObjectId}
+use Rattle.gw_outside.specs.Causes.{raised}
+use Rattle.append_store.specs.Plan.{plan_for, due_of}
+use Rattle.append_store.specs.Calls.{Creates}
+use Rattle.append_store.specs.State.{ObjectState, Missing, Kept, Lent}
+use Rattle.append_store.specs.File.{FileState, shown}
+use Rattle.append_store.specs.declared.mem_file.Planned.{Planned}
+use Rattle.append_store.specs.declared.slots.Entry.{Entry}
+use Rattle.append_store.specs.declared.slots.Spot.{Spot}
+use Rattle.append_store.specs.declared.slots.Spot.TheVariants.{Gone, Here, Out}
+
+-- the object, its losses, how many of its calls were counted, and those that are to fail. While
+-- the file is out, it has the last two.
+pub record Slot : Type 0 where
+  pub state : ObjectState
+  pub losses : ℕ
+  pub calls : ℕ
+  pub plan : List Planned
+
+abbrev pub spot_slot : ObjectId → Spot → ℕ → Slot
+spot_slot object (Gone f) losses = record { state = Missing; losses = losses; calls = f.calls; plan = f.plan.items }
+spot_slot object (Here f) losses = record { state = Kept f.bytes.items f.durable; losses = losses; calls = f.calls; plan = f.plan.items }
+spot_slot object Out losses = record { state = Lent object; losses = losses; calls = 0; plan = [] }
+
+abbrev pub entry_slot : ObjectId → Entry → Slot
+entry_slot object entry = spot_slot object entry.spot entry.losses
+
+-- a name that was never used has all its planned calls to come
+abbrev pub slot_of : List Planned → ObjectId → Option Entry → Slot
+slot_of failing object None = record { state = Missing; losses = 0; calls = 0; plan = plan_for object failing }
+slot_of failing object (Some entry) = entry_slot object entry
+
+-- a create is counted, but of an object that is out
+abbrev pub calls_after_create : ObjectState → ℕ → ℕ
+calls_after_create Missing calls = raised calls
+calls_after_create (Kept bytes durable) calls = raised calls
+calls_after_create (Lent mark) calls = calls
+
+pub record CountsCreate (old new : Slot) : Type 0 where
+  pub losses : new.losses ≡ old.losses
+  pub calls : new.calls ≡ calls_after_create old.state old.calls
+  pub plan : new.plan ≡ old.plan
+
+-- what is planned for the next counted call on this object
+abbrev pub slot_due : Slot → Option ℕ
+slot_due slot = due_of slot.plan (raised slot.calls)
+
+-- a create is done exactly where its call isn't named, and changes nothing else
+pub record CreatesSlot (old new : Slot) (made : Bool) : Type 0 where
+  pub due : made ≡ is_none (slot_due old)
+  pub done : made ≡ true → Creates old.state new.state
+  pub failed : made ≡ false → new.state ≡ old.state
+  pub counted : CountsCreate old new
+
+-- the file has what the object had, and its call was counted
+pub record IsTakenOf (old : Slot) (name : ObjectId) (file : FileState) : Type 0 where
+  pub object : file.object ≡ name
+  pub kept : old.state ≡ Kept file.content file.durable
+  pub plan : file.plan ≡ old.plan
+  pub calls : file.calls ≡ raised old.calls
+  pub planned : file.planned ≡ 0
+  pub starved : file.starved ≡ 0
+
+pub record IsOut (old new : Slot) (name : ObjectId) : Type 0 where
+  pub state : new.state ≡ Lent name
+  pub losses : new.losses ≡ old.losses
+
+-- the call was counted, and nothing else changed
+pub record FailsToTake (old new : Slot) : Type 0 where
+  pub state : new.state ≡ old.state
+  pub losses : new.losses ≡ old.losses
+  pub calls : new.calls ≡ raised old.calls
+  pub plan : new.plan ≡ old.plan
+
+-- the object has what the file had
+pub record IsBackAs (old new : Slot) (file : FileState) : Type 0 where
+  pub state : new.state ≡ Kept file.content file.durable
+  pub losses : new.losses ≡ old.losses
+  pub calls : new.calls ≡ file.calls
+  pub plan : new.plan ≡ file.plan

@@ -1,0 +1,67 @@
+-- A store in memory, as contracts see it, and what its calls do with the planned failures.
+use Rattle.std.specs.Prelude.{◌≡◌, ◌≢◌, ◌+◌, ◌-◌, ◌^◌, min, ℕ, List, Option, is_some, is_err, IfOk, OnErr, IsSome, IsNone, Result, Ok, Err}
+use Rattle.gw_model.specs.declared.object.ObjectId.{ObjectId}
+use Rattle.gw_outside.specs.Causes.{raised, count_after}
+use Rattle.append_store.specs.Plan.{plan_for}
+use Rattle.append_store.specs.State.{Missing}
+use Rattle.append_store.specs.File.{FileState}
+use Rattle.std.specs.BTreeMap.{get}
+use Rattle.std.specs.declared.cmp.Ordering.{Ordering}
+use Rattle.gw_model.specs.contracts.object.ObjectIdOrd.TheImpl as object_order
+use Rattle.append_store.specs.Slots.{Slot, slot_due, slot_of, FailsToTake, CountsCreate}
+use Rattle.append_store.specs.declared.mem_cluster.MemCluster.{MemCluster}
+use Rattle.append_store.specs.declared.mem_file.Planned.{Planned}
+use Rattle.append_store.specs.declared.store.CreateFault.{CreateFault}
+use Rattle.append_store.specs.declared.store.CreateFault.TheVariants.{Fault, Memory}
+
+-- what is kept under each name, the calls that are to fail, and the two numbers of faults
+pub record StoreState : Type 0 where
+  pub slots : ObjectId → Slot
+  pub failing : List Planned
+  pub planned : ℕ
+  pub starved : ℕ
+
+-- the order of the names: logs first, then by numbers
+abbrev pub object_cmp : ObjectId → ObjectId → Ordering
+object_cmp = (object_order.ghosts).cmp
+
+abbrev pub store_of : MemCluster → StoreState
+store_of c = record { slots = λ q. slot_of c.failing.items q (get object_cmp c.entries q); failing = c.failing.items; planned = c.planned; starved = c.starved }
+
+abbrev pub slot_at : MemCluster → ObjectId → Slot
+slot_at c q = (store_of c).slots q
+
+-- the faults of a store in memory: both numbers together, up to the greatest u64
+abbrev pub store_count : StoreState → ℕ
+store_count s = min (s.planned + s.starved) (2 ^ 64 - 1)
+
+-- nothing is there, and all planned calls are to come
+pub record IsNew (store : StoreState) (entries : List Planned) : Type 0 where
+  pub slots : (q : ObjectId) → store.slots q ≡ record { state = Missing; losses = 0; calls = 0; plan = plan_for q entries }
+  pub failing : store.failing ≡ entries
+  pub planned : store.planned ≡ 0
+  pub starved : store.starved ≡ 0
+
+-- a create that is named fails; another is done, unless the making of an entry finds no memory
+abbrev pub CreateOutcome : {T : Type 0} → StoreState → StoreState → ObjectId → Result T CreateFault → Type 0
+CreateOutcome old new object (Ok x) = IsNone (slot_due (old.slots object)) × (new.planned ≡ old.planned) × (new.starved ≡ old.starved) × CountsCreate (old.slots object) (new.slots object)
+CreateOutcome old new object (Err Fault) = IsSome (slot_due (old.slots object)) × (new.planned ≡ raised old.planned) × (new.starved ≡ old.starved) × CountsCreate (old.slots object) (new.slots object)
+CreateOutcome old new object (Err Memory) = ((old.slots object).state ≡ Missing) × (new.planned ≡ old.planned) × (new.starved ≡ raised old.starved) × (new.slots object ≡ old.slots object)
+
+pub record CreatesAsPlanned {T : Type 0} (old new : StoreState) (object : ObjectId) (result : Result T CreateFault) : Type 0 where
+  pub failing : new.failing ≡ old.failing
+  pub outcome : CreateOutcome old new object result
+
+-- a taking fails exactly where it is named
+pub record TakesAsPlanned {T E : Type 0} (old new : StoreState) (object : ObjectId) (result : Result T E) : Type 0 where
+  pub failing : new.failing ≡ old.failing
+  pub failed : is_err result ≡ is_some (slot_due (old.slots object))
+  pub planned : new.planned ≡ count_after old.planned (is_err result)
+  pub starved : new.starved ≡ old.starved
+  pub slot : OnErr result (FailsToTake (old.slots object) (new.slots object))
+
+-- the file's two numbers are added
+pub record AddsFaults (old new : StoreState) (file : FileState) : Type 0 where
+  pub failing : new.failing ≡ old.failing
+  pub planned : new.planned ≡ min (old.planned + file.planned) (2 ^ 64 - 1)
+  pub starved : new.starved ≡ min (old.starved + file.starved) (2 ^ 64 - 1)

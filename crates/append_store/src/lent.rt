@@ -1,0 +1,29 @@
+// A store that is lent is a store.
+use crate::{Cluster, CreateFault, StoreFault};
+use gw_model::ObjectId;
+
+impl<C: Cluster> Cluster for &mut C {
+    type File = C::File;
+
+    ghost at = { λ c. C.at c.now };
+
+    ghost losses = { λ c. C.losses c.now };
+
+    ghost count = { λ c. C.count c.now };
+
+    fn create(&mut self, object: ObjectId) -> Result<(), CreateFault> {
+        (**self).create(object)
+    }
+
+    fn take_file(&mut self, object: ObjectId) -> Result<Self::File, StoreFault> {
+        (**self).take_file(object)
+    }
+
+    fn give_file(&mut self, object: ObjectId, file: Self::File) {
+        (**self).give_file(object, file)
+    }
+
+    fn faults(&self) -> u64 {
+        (**self).faults()
+    }
+}

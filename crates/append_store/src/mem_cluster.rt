@@ -1,0 +1,196 @@
+// A store in memory, which fails at the calls that it is told to fail at.
+ghost use Rattle.std.specs.Prelude.{◌≡◌, ◌≢◌, ◌⊎◌, ◌≤◌, ◌<◌, OnOk, OnErr, IfOk, IsErrOf, None};
+ghost use Rattle.std.specs.BTreeMap.{get};
+ghost use Rattle.std.specs.Option.{option_copied};
+ghost use Rattle.gw_model.specs.declared.object.ObjectId.{ObjectId};
+ghost use Rattle.gw_outside.specs.Causes.{HasCause, Rose, Carries};
+ghost use Rattle.append_store.specs.State.{IsThere, Kept, Missing, Lent, content_in};
+ghost use Rattle.append_store.specs.Calls.{Creates, MayCreate, Guards};
+ghost use Rattle.append_store.specs.Plan.{is_of, plan_for};
+ghost use Rattle.append_store.specs.File.{file_count, shown};
+ghost use Rattle.append_store.specs.Slots.{CreatesSlot, IsTakenOf, IsBackAs, slot_of};
+ghost use Rattle.append_store.specs.Store.{IsNew, CreatesAsPlanned, TakesAsPlanned, AddsFaults, object_cmp, slot_at, store_count, store_of};
+
+use crate::slots::{Entry, Spot, bytes_at, create_at, give_at, take_at};
+use crate::{Cluster, CreateFault, MemFile, Planned, StoreFault};
+use gw_model::ObjectId;
+use std::alloc::{AllocError, Global};
+use std::collections::BTreeMap;
+
+/// A store in memory. The calls that are planned to fail do so: of each object `create`,
+/// `take_file` and the file's `append` are counted, from 1. A `create` of an object that is out
+/// isn't counted, and neither is one that finds no memory. A foreign file is let go.
+#[derive(Drop)]
+pub struct MemCluster {
+    alloc: Global,
+    entries: BTreeMap<ObjectId, Entry>,
+    failing: Vec<Planned>,
+    planned: u64,
+    starved: u64,
+}
+
+// Whether an entry of the plan is for a call of this object.
+fn is_planned_for(entry: &Planned, object: ObjectId) -> bool
+    ensures { result ≡ is_of object entry.now.object }
+{
+    entry.object == Some(object)
+}
+
+// The entries of the plan that are for calls of this object.
+fn plan_of(
+    alloc: Global,
+    failing: &[Planned],
+    object: ObjectId,
+) -> Result<Vec<Planned>, AllocError>
+    ensures { IfOk result (λ plan. plan.items ≡ plan_for object failing.now) }
+{
+    let mut plan = Vec::new(alloc);
+    for entry in failing {
+        if is_planned_for(entry, object) {
+            plan.push(*entry)?;
+        }
+    }
+    Ok(plan)
+}
+
+// Makes an object of no bytes where nothing is, and an entry where the name was never used; false
+// where the call is to fail.
+fn create_in(
+    alloc: Global,
+    entries: &mut BTreeMap<ObjectId, Entry>,
+    failing: &[Planned],
+    object: ObjectId,
+) -> Result<bool, AllocError>
+    ensures made { IfOk result (λ made. CreatesSlot (slot_of failing.now object (get object_cmp entries.old object)) (slot_of failing.now object (get object_cmp entries.new object)) made) }
+    ensures unused { OnErr result (get object_cmp entries.old object ≡ None) }
+    ensures refused { OnErr result (get object_cmp entries.new object ≡ None) }
+    ensures others { (q : ObjectId) → q ≢ object → get object_cmp entries.new q ≡ get object_cmp entries.old q }
+{
+    if let Some(entry) = entries.get_mut(&object) {
+        return Ok(create_at(object, entry));
+    }
+    let plan = plan_of(alloc, failing, object)?;
+    let spot = Spot::Gone(MemFile::empty(alloc, object, plan));
+    let mut entry = Entry { spot, losses: 0 };
+    let made = create_at(object, &mut entry);
+    entries.insert(object, entry)?;
+    Ok(made)
+}
+
+impl MemCluster {
+    /// An empty store. The calls that `failing` names fail.
+    pub fn new(alloc: Global, failing: Vec<Planned>) -> Self
+        ensures { IsNew (store_of result) failing.items }
+    {
+        MemCluster {
+            alloc,
+            entries: BTreeMap::new(alloc),
+            failing,
+            planned: 0,
+            starved: 0,
+        }
+    }
+
+    /// The bytes of an object; None exactly where it isn't there or is out.
+    pub fn content_of(&self, object: ObjectId) -> Option<&[u8]>
+        ensures { option_copied result ≡ content_in (slot_at self.now object).state }
+    {
+        bytes_at(self.entries.get(&object)?)
+    }
+
+    /// How many calls failed because the plan names them, with those of the files that were given
+    /// back.
+    pub fn planned(&self) -> u64
+        ensures { result ≡ (store_of self.now).planned }
+    {
+        self.planned
+    }
+
+    /// How often a growth found no memory, with those of the files that were given back.
+    pub fn starved(&self) -> u64
+        ensures { result ≡ (store_of self.now).starved }
+    {
+        self.starved
+    }
+}
+
+impl Cluster for MemCluster {
+    type File = MemFile;
+
+    ghost at = { λ c q. (slot_at c q).state };
+
+    ghost losses = { λ c q. (slot_at c q).losses };
+
+    ghost count = { λ c. store_count (store_of c) };
+
+    fn create(&mut self, object: ObjectId) -> Result<(), CreateFault>
+        ensures done { OnOk result (Creates (slot_at self.old object).state (slot_at self.new object).state) }
+        ensures failed { OnErr result (MayCreate (slot_at self.old object).state (slot_at self.new object).state) }
+        ensures others { (q : ObjectId) → q ≢ object → slot_at self.new q ≡ slot_at self.old q }
+        ensures losses { Guards (slot_at self.old object).state (slot_at self.new object).state (slot_at self.old object).losses (slot_at self.new object).losses }
+        ensures losses_there { (slot_at self.old object).state ≢ Missing → (slot_at self.new object).losses ≡ (slot_at self.old object).losses }
+        ensures no_losses { (q : ObjectId) → q ≢ object → (slot_at self.new q).losses ≡ (slot_at self.old q).losses }
+        ensures later { store_count (store_of self.old) ≤ store_count (store_of self.new) }
+        ensures cause { IsErrOf result CreateFault.Fault → Rose (store_count (store_of self.old)) (store_count (store_of self.new)) }
+        ensures planned { CreatesAsPlanned (store_of self.old) (store_of self.new) object result }
+    {
+        match create_in(self.alloc, &mut self.entries, &self.failing, object) {
+            Ok(true) => Ok(()),
+            Ok(false) => {
+                self.planned = self.planned.saturating_add(1);
+                Err(CreateFault::Fault)
+            }
+            Err(_) => {
+                self.starved = self.starved.saturating_add(1);
+                Err(CreateFault::Memory)
+            }
+        }
+    }
+
+    fn take_file(&mut self, object: ObjectId) -> Result<MemFile, StoreFault>
+        requires { IsThere (slot_at self.old object).state }
+        ensures taken { IfOk result (λ file. (slot_at self.old object).state ≡ Kept (shown file).content (shown file).durable) }
+        ensures out { IfOk result (λ file. (slot_at self.new object).state ≡ Lent (shown file).object) }
+        ensures fresh { IfOk result (λ file. file_count (shown file) ≡ 0) }
+        ensures failed { OnErr result ((slot_at self.new object).state ≡ (slot_at self.old object).state) }
+        ensures others { (q : ObjectId) → q ≢ object → slot_at self.new q ≡ slot_at self.old q }
+        ensures no_losses { (q : ObjectId) → (slot_at self.new q).losses ≡ (slot_at self.old q).losses }
+        ensures cause { HasCause (store_count (store_of self.old)) (store_count (store_of self.new)) result }
+        ensures file { IfOk result (λ file. IsTakenOf (slot_at self.old object) object (shown file)) }
+        ensures planned { TakesAsPlanned (store_of self.old) (store_of self.new) object result }
+    {
+        match self.entries.get_mut(&object) {
+            Some(entry) => {
+                if let Some(file) = take_at(object, entry) {
+                    return Ok(file);
+                }
+                self.planned = self.planned.saturating_add(1);
+                Err(StoreFault)
+            }
+            None => unreachable!(),
+        }
+    }
+
+    fn give_file(&mut self, object: ObjectId, file: MemFile)
+        ensures own { (slot_at self.old object).state ≡ Lent (shown file).object → (slot_at self.new object).state ≡ Kept (shown file).content (shown file).durable }
+        ensures own_losses { (slot_at self.old object).state ≡ Lent (shown file).object → (slot_at self.new object).losses ≡ (slot_at self.old object).losses }
+        ensures foreign { (slot_at self.old object).state ≢ Lent (shown file).object → ((slot_at self.new object).state ≡ (slot_at self.old object).state) ⊎ ((slot_at self.old object).losses < (slot_at self.new object).losses) }
+        ensures losses { (slot_at self.old object).losses ≤ (slot_at self.new object).losses }
+        ensures others { (q : ObjectId) → q ≢ object → slot_at self.new q ≡ slot_at self.old q }
+        ensures no_losses { (q : ObjectId) → q ≢ object → (slot_at self.new q).losses ≡ (slot_at self.old q).losses }
+        ensures count { Carries (store_count (store_of self.old)) (file_count (shown file)) (store_count (store_of self.new)) }
+        ensures back { (slot_at self.old object).state ≡ Lent (shown file).object → IsBackAs (slot_at self.old object) (slot_at self.new object) (shown file) }
+        ensures let_go { (slot_at self.old object).state ≢ Lent (shown file).object → slot_at self.new object ≡ slot_at self.old object }
+        ensures faults { AddsFaults (store_of self.old) (store_of self.new) (shown file) }
+    {
+        self.planned = self.planned.saturating_add(file.planned());
+        self.starved = self.starved.saturating_add(file.starved());
+        if let Some(entry) = self.entries.get_mut(&object) {
+            give_at(object, entry, file);
+        }
+    }
+
+    fn faults(&self) -> u64 {
+        self.planned.saturating_add(self.starved)
+    }
+}

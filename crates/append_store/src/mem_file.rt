@@ -1,0 +1,172 @@
+// A file in memory, which fails at the calls that it is told to fail at.
+ghost use Rattle.std.specs.Prelude.{◌≡◌, ◌≤◌, [], length};
+ghost use Rattle.append_store.specs.Plan.{due_of};
+
+use crate::{AppendFault, AppendFile};
+use gw_model::ObjectId;
+use std::alloc::Global;
+
+/// A call that is to fail.
+#[derive(Clone, Copy, Debug, PartialEq, Eq)]
+pub struct Planned {
+    /// The object whose calls are counted, or none for the calls on the store as a whole.
+    pub object: Option<ObjectId>,
+    /// The number of the call, from 1.
+    pub call: u64,
+    /// How many bytes an append keeps where it fails so, if its piece has as many.
+    pub kept: u64,
+}
+
+/// A file in memory. The calls of its object that are planned to fail do so: `create`,
+/// `take_file` and `append` are counted, from 1, and the numbers go on from one taking to the next.
+#[derive(Drop)]
+pub struct MemFile {
+    object: ObjectId,
+    bytes: Vec<u8>,
+    durable: usize,
+    plan: Vec<Planned>,
+    calls: u64,
+    planned: u64,
+    starved: u64,
+    ghost within: { durable ≤ length bytes.items },
+}
+
+impl AppendFile for MemFile {
+    ghost use Rattle.std.specs.Prelude.{◌++◌, take, IfErr};
+    ghost use Rattle.gw_outside.specs.Causes.{HasCause};
+    ghost use Rattle.append_store.specs.Calls.{added};
+    ghost use Rattle.append_store.specs.File.{AppendsAsPlanned, file_count, shown};
+
+    ghost tells = { Unit {0} };
+
+    ghost mark = { λ f. f.object };
+
+    ghost content = { λ f. f.bytes.items };
+
+    ghost durable = { λ f. f.durable };
+
+    ghost count = { λ f. file_count (shown f) };
+
+    ghost durable_within = { λ f told. f.within };
+
+    fn append(&mut self, bytes: &[u8]) -> Result<(), AppendFault>
+        ensures kept { IfErr result (λ e. e.kept ≤ length bytes.now) }
+        ensures content { (shown self.new).content ≡ (shown self.old).content ++ take (added result (length bytes.now)) bytes.now }
+        ensures durable { (shown self.old).durable ≤ (shown self.new).durable }
+        ensures same { (shown self.new).object ≡ (shown self.old).object }
+        ensures cause { HasCause (file_count (shown self.old)) (file_count (shown self.new)) result }
+        ensures planned { AppendsAsPlanned (shown self.old) (shown self.new) (length bytes.now) result }
+    {
+        let due = self.due();
+        let kept = match due {
+            Some(kept) => bytes.len().min(kept as usize),
+            None => bytes.len(),
+        };
+        let (part, _) = bytes.split_at(kept);
+        if self.bytes.extend_from_slice(part).is_err() {
+            self.starved = self.starved.saturating_add(1);
+            return Err(AppendFault { kept: 0 });
+        }
+        if due.is_some() {
+            return Err(AppendFault { kept: kept as u64 });
+        }
+        Ok(())
+    }
+
+    fn len(&self) -> u64 {
+        self.bytes.len() as u64
+    }
+
+    fn faults(&self) -> u64 {
+        self.planned.saturating_add(self.starved)
+    }
+}
+
+// What the first entry that names this call keeps.
+fn first_due(plan: &[Planned], call: u64) -> Option<u64>
+    ensures { result ≡ due_of plan.now call }
+{
+    for entry in plan {
+        if entry.call == call {
+            return Some(entry.kept);
+        }
+    }
+    None
+}
+
+impl MemFile {
+    ghost use Rattle.append_store.specs.File.{IsFresh, IsDue, IsEmptied, IsHandedOut, shown};
+
+    // A file of no bytes, with the calls of this object that are to fail.
+    pub(crate) fn empty(alloc: Global, object: ObjectId, plan: Vec<Planned>) -> Self
+        ensures { IsFresh (shown result) plan.items }
+    {
+        MemFile {
+            object,
+            bytes: Vec::new(alloc),
+            durable: 0,
+            plan,
+            calls: 0,
+            planned: 0,
+            starved: 0,
+        }
+    }
+
+    // Counts a call, and its failure where it is to fail; gives what an append keeps then.
+    pub(crate) fn due(&mut self) -> Option<u64>
+        ensures { IsDue self.old self.new result }
+    {
+        self.calls = self.calls.saturating_add(1);
+        let due = first_due(&self.plan, self.calls);
+        if due.is_some() {
+            self.planned = self.planned.saturating_add(1);
+        }
+        due
+    }
+
+    /// The object that the file was taken of.
+    pub fn object(&self) -> ObjectId
+        ensures { result ≡ (shown self.now).object }
+    {
+        self.object
+    }
+
+    /// How many calls since the file was taken failed because the plan names them.
+    pub fn planned(&self) -> u64
+        ensures { result ≡ (shown self.now).planned }
+    {
+        self.planned
+    }
+
+    /// How often since the file was taken a growth found no memory.
+    pub fn starved(&self) -> u64
+        ensures { result ≡ (shown self.now).starved }
+    {
+        self.starved
+    }
+
+    pub(crate) fn bytes(&self) -> &[u8]
+        ensures { result.now ≡ (shown self.now).content }
+    {
+        &self.bytes
+    }
+
+    // The file with no bytes.
+    pub(crate) fn emptied(mut self) -> Self
+        ensures { IsEmptied (shown self) (shown result) }
+    {
+        self.durable = 0;
+        self.bytes.clear();
+        self
+    }
+
+    // The file under its name, with no faults.
+    pub(crate) fn handed_out(mut self, object: ObjectId) -> Self
+        ensures { IsHandedOut (shown self) (shown result) object }
+    {
+        self.object = object;
+        self.planned = 0;
+        self.starved = 0;
+        self
+    }
+}

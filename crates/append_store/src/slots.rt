@@ -1,0 +1,92 @@
+// What a store in memory keeps under a name, and what one call does there.
+ghost use Rattle.std.specs.Prelude.{◌≡◌, ◌≢◌, IfSome, OnSome, IfNone, is_none, is_some};
+ghost use Rattle.std.specs.Option.{option_copied};
+ghost use Rattle.gw_model.specs.declared.object.ObjectId.{ObjectId};
+ghost use Rattle.append_store.specs.State.{IsThere, Lent, content_in};
+ghost use Rattle.append_store.specs.Plan.{due_of};
+ghost use Rattle.append_store.specs.File.{shown};
+ghost use Rattle.append_store.specs.Slots.{CreatesSlot, FailsToTake, IsOut, IsTakenOf, IsBackAs, entry_slot};
+ghost use Rattle.gw_outside.specs.Causes.{raised};
+
+use crate::MemFile;
+use gw_model::ObjectId;
+use std::mem::replace;
+
+// The file of an object that isn't there keeps the number of its calls.
+#[derive(Drop)]
+pub(crate) enum Spot {
+    Gone(MemFile),
+    Here(MemFile),
+    Out,
+}
+
+#[derive(Drop)]
+pub(crate) struct Entry {
+    pub(crate) spot: Spot,
+    pub(crate) losses: u64,
+}
+
+// Makes an object of no bytes where nothing is; false where the call is to fail.
+pub(crate) fn create_at(object: ObjectId, entry: &mut Entry) -> bool
+    ensures { CreatesSlot (entry_slot object entry.old) (entry_slot object entry.new) result }
+{
+    match replace(&mut entry.spot, Spot::Out) {
+        Spot::Gone(mut file) => {
+            let fails = file.due().is_some();
+            entry.spot = if fails {
+                Spot::Gone(file)
+            } else {
+                Spot::Here(file.emptied())
+            };
+            !fails
+        }
+        Spot::Here(mut file) => {
+            let fails = file.due().is_some();
+            entry.spot = Spot::Here(file);
+            !fails
+        }
+        Spot::Out => true,
+    }
+}
+
+// Takes the file of an object out; None where the call is to fail.
+pub(crate) fn take_at(object: ObjectId, entry: &mut Entry) -> Option<MemFile>
+    requires { IsThere (entry_slot object entry.old).state }
+    ensures taken { IfSome result (λ file. IsTakenOf (entry_slot object entry.old) object (shown file)) }
+    ensures out { OnSome result (IsOut (entry_slot object entry.old) (entry_slot object entry.new) object) }
+    ensures failed { IfNone result (FailsToTake (entry_slot object entry.old) (entry_slot object entry.new)) }
+    ensures due { is_none result ≡ is_some (due_of (entry_slot object entry.old).plan (raised (entry_slot object entry.old).calls)) }
+{
+    match replace(&mut entry.spot, Spot::Out) {
+        Spot::Here(mut file) => {
+            if file.due().is_some() {
+                entry.spot = Spot::Here(file);
+                return None;
+            }
+            Some(file.handed_out(object))
+        }
+        _ => unreachable!(),
+    }
+}
+
+// Puts a file back where it was taken, and lets go of it elsewhere.
+pub(crate) fn give_at(object: ObjectId, entry: &mut Entry, file: MemFile)
+    ensures own { (entry_slot object entry.old).state ≡ Lent (shown file).object → IsBackAs (entry_slot object entry.old) (entry_slot object entry.new) (shown file) }
+    ensures foreign { (entry_slot object entry.old).state ≢ Lent (shown file).object → entry_slot object entry.new ≡ entry_slot object entry.old }
+{
+    if file.object() == object {
+        if let Spot::Out = entry.spot {
+            entry.spot = Spot::Here(file);
+        }
+    }
+}
+
+// The bytes of an object that is there and isn't out.
+pub(crate) fn bytes_at(entry: &Entry) -> Option<&[u8]>
+    ensures { (object : ObjectId) → option_copied result ≡ content_in (entry_slot object entry.now).state }
+{
+    match &entry.spot {
+        Spot::Here(file) => Some(file.bytes()),
+        _ => None,
+    }
+}

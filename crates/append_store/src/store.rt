@@ -1,0 +1,125 @@
+// An append-only file, and a store of such files. What they hold is told by some and not by others.
+ghost use Rattle.std.specs.Prelude.{◌≡◌, ◌≢◌, ◌⊎◌, ◌++◌, ◌<◌, ◌≤◌, List, ℕ, length, take, IfOk, IfErr, OnOk, OnErr, IsErrOf};
+ghost use Rattle.gw_outside.specs.Causes.{HasCause, Rose, Carries};
+ghost use Rattle.gw_model.specs.declared.object.ObjectId.{ObjectId};
+ghost use Rattle.append_store.specs.State.{ObjectState, Missing, Kept, Lent, IsThere};
+ghost use Rattle.append_store.specs.Calls.{Creates, MayCreate, Guards, added};
+
+use gw_model::ObjectId;
+
+/// An append that failed.
+#[derive(Clone, Copy, Debug, PartialEq, Eq)]
+pub struct AppendFault {
+    /// How many bytes of the piece were kept, from its front on.
+    pub kept: u64,
+}
+
+/// Another call of a file or a store that failed.
+#[derive(Clone, Copy, Debug, PartialEq, Eq)]
+pub struct StoreFault;
+
+/// Why an object wasn't created.
+#[derive(Clone, Copy, Debug, PartialEq, Eq)]
+pub enum CreateFault {
+    /// The store failed.
+    Fault,
+    /// Memory was refused.
+    Memory,
+}
+
+/// A file that only grows. It was taken of a store, and has an object there.
+pub trait AppendFile: Drop {
+    /// Whether files of this type tell what they hold: the clauses on it stand under this premise.
+    ghost tells: { Type 0 };
+
+    /// The object that the file was taken of.
+    ghost mark: { Self → ObjectId };
+
+    /// The bytes of the file.
+    ghost content: { Self → List ℕ };
+
+    /// How many bytes, from the front on, are kept over a crash.
+    ghost durable: { Self → ℕ };
+
+    /// How often the file has failed since it was taken.
+    ghost count: { Self → ℕ };
+
+    /// Adds `bytes` at the end. Where it fails, the front of `bytes` that the error names was
+    /// added.
+    fn append(&mut self, bytes: &[u8]) -> Result<(), AppendFault>
+        ensures kept { IfErr result (λ e. e.kept ≤ length bytes.now) }
+        ensures content { tells → content self.new ≡ content self.old ++ take (added result (length bytes.now)) bytes.now }
+        ensures durable { tells → durable self.old ≤ durable self.new }
+        ensures same { mark self.new ≡ mark self.old }
+        ensures cause { HasCause (count self.old) (count self.new) result };
+
+    /// How many bytes the file has.
+    fn len(&self) -> u64
+        ensures { tells → result ≡ length (content self.now) };
+
+    /// How often the file has failed since it was taken. The count never falls, and stays at the
+    /// greatest u64.
+    fn faults(&self) -> u64
+        ensures { result ≡ count self.now };
+
+    /// No more is durable than there is.
+    ghost durable_within: { (f : Self) → tells → durable f ≤ length (content f) };
+}
+
+/// A store of objects that only grow. A call on one object changes no other.
+pub trait Cluster: Drop {
+    /// What is taken of an object.
+    type File: AppendFile;
+
+    /// What the store has under a name.
+    ghost at: { Self → ObjectId → ObjectState };
+
+    /// How often the durable length of an object fell, at a moment inside a call too. It never
+    /// falls, also when the object is gone.
+    ghost losses: { Self → ObjectId → ℕ };
+
+    /// How often the store has failed, with the failures of the files that were given back.
+    ghost count: { Self → ℕ };
+
+    /// Makes an object of no bytes where nothing is, and leaves one that is there as it is. A call
+    /// that failed may have made it. Takes memory.
+    fn create(&mut self, object: ObjectId) -> Result<(), CreateFault>
+        ensures done { OnOk result (Self.File.tells → Creates (at self.old object) (at self.new object)) }
+        ensures failed { OnErr result (Self.File.tells → MayCreate (at self.old object) (at self.new object)) }
+        ensures others { Self.File.tells → (q : ObjectId) → q ≢ object → at self.new q ≡ at self.old q }
+
+        // Only where nothing was there may the losses rise.
+        ensures losses { Self.File.tells → Guards (at self.old object) (at self.new object) (losses self.old object) (losses self.new object) }
+        ensures losses_there { Self.File.tells → at self.old object ≢ Missing → losses self.new object ≡ losses self.old object }
+        ensures no_losses { Self.File.tells → (q : ObjectId) → q ≢ object → losses self.new q ≡ losses self.old q }
+        ensures later { count self.old ≤ count self.new }
+        ensures cause { IsErrOf result CreateFault.Fault → Rose (count self.old) (count self.new) };
+
+    /// Takes the file of an object out. Its count begins at 0. A call that failed takes nothing
+    /// out.
+    fn take_file(&mut self, object: ObjectId) -> Result<Self::File, StoreFault>
+        requires { Self.File.tells → IsThere (at self.old object) }
+        ensures taken { IfOk result (λ file. Self.File.tells → at self.old object ≡ Kept (Self.File.content file) (Self.File.durable file)) }
+        ensures out { IfOk result (λ file. Self.File.tells → at self.new object ≡ Lent (Self.File.mark file)) }
+        ensures fresh { IfOk result (λ file. Self.File.count file ≡ 0) }
+        ensures failed { OnErr result (Self.File.tells → at self.new object ≡ at self.old object) }
+        ensures others { Self.File.tells → (q : ObjectId) → q ≢ object → at self.new q ≡ at self.old q }
+        ensures no_losses { Self.File.tells → (q : ObjectId) → losses self.new q ≡ losses self.old q }
+        ensures cause { HasCause (count self.old) (count self.new) result };
+
+    /// Puts a file back, and adds its failures to the store's. The file is foreign where the object
+    /// isn't out or where it was taken of another one: a store may then lose the object.
+    fn give_file(&mut self, object: ObjectId, file: Self::File)
+        ensures own { Self.File.tells → at self.old object ≡ Lent (Self.File.mark file) → at self.new object ≡ Kept (Self.File.content file) (Self.File.durable file) }
+        ensures own_losses { Self.File.tells → at self.old object ≡ Lent (Self.File.mark file) → losses self.new object ≡ losses self.old object }
+        ensures foreign { Self.File.tells → at self.old object ≢ Lent (Self.File.mark file) → (at self.new object ≡ at self.old object) ⊎ (losses self.old object < losses self.new object) }
+        ensures losses { Self.File.tells → losses self.old object ≤ losses self.new object }
+        ensures others { Self.File.tells → (q : ObjectId) → q ≢ object → at self.new q ≡ at self.old q }
+        ensures no_losses { Self.File.tells → (q : ObjectId) → q ≢ object → losses self.new q ≡ losses self.old q }
+        ensures count { Carries (count self.old) (Self.File.count file) (count self.new) };
+
+    /// How often the store has failed, with the failures of the files that were given back. The
+    /// count never falls, and stays at the greatest u64.
+    fn faults(&self) -> u64
+        ensures { result ≡ count self.now };
+}

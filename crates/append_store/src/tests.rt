@@ -1,0 +1,72 @@
+use super::*;
+use gw_model::ObjectId;
+use std::test::Fail;
+
+const BODY: ObjectId = ObjectId::Body {
+    file: 4,
+    version: 1,
+};
+
+// The call of this number on the body is to fail, and keeps 3 bytes if it is an append.
+fn fails_at(call: u64) -> Planned {
+    Planned {
+        object: Some(BODY),
+        call,
+        kept: 3,
+    }
+}
+
+#[test]
+fn keeps_what_is_appended(rt: HostRuntime) -> Result<(), Fail> {
+    let alloc = rt.alloc();
+    let mut cluster = MemCluster::new(alloc, Vec::new(alloc));
+    assert_eq!(rt; cluster.content_of(BODY), None);
+    assert_eq!(rt; cluster.create(BODY), Ok(()));
+    let mut lent = &mut cluster;
+    let mut file = lent.take_file(BODY).map_err(|_| "taken")?;
+    assert_eq!(rt; file.object(), BODY);
+    assert_eq!(rt; file.append(b"abc"), Ok(()));
+    assert_eq!(rt; file.append(b"de"), Ok(()));
+    assert_eq!(rt; file.len(), 5);
+    lent.give_file(BODY, file);
+    assert_eq!(rt; cluster.content_of(BODY), Some(b"abcde".as_slice()));
+    assert_eq!(rt; cluster.create(BODY), Ok(()));
+    assert_eq!(rt; cluster.content_of(BODY), Some(b"abcde".as_slice()));
+    assert_eq!(rt; cluster.faults(), 0);
+    Ok(())
+}
+
+// Calls 1 and 2 are the create and the taking.
+#[test]
+fn keeps_the_front_at_a_planned_append(rt: HostRuntime) -> Result<(), Fail> {
+    let alloc = rt.alloc();
+    let mut cluster = MemCluster::new(alloc, vec![in alloc; fails_at(3)]?);
+    assert_eq!(rt; cluster.create(BODY), Ok(()));
+    let mut file = cluster.take_file(BODY).map_err(|_| "taken")?;
+    assert_eq!(rt; file.append(b"abcde"), Err(AppendFault { kept: 3 }));
+    assert_eq!(rt; file.faults(), 1);
+    assert_eq!(rt; file.append(b"xy"), Ok(()));
+    cluster.give_file(BODY, file);
+    assert_eq!(rt; cluster.content_of(BODY), Some(b"abcxy".as_slice()));
+    assert_eq!(rt; cluster.faults(), 1);
+    assert_eq!(rt; cluster.planned(), 1);
+    assert_eq!(rt; cluster.starved(), 0);
+    Ok(())
+}
+
+#[test]
+fn fails_a_planned_create_and_a_planned_taking(rt: HostRuntime) -> Result<(), Fail> {
+    let alloc = rt.alloc();
+    let mut cluster = MemCluster::new(alloc, vec![in alloc; fails_at(1)]?);
+    assert_eq!(rt; cluster.create(BODY), Err(CreateFault::Fault));
+    assert_eq!(rt; cluster.content_of(BODY), None);
+    assert_eq!(rt; cluster.create(BODY), Ok(()));
+    assert_eq!(rt; cluster.faults(), 1);
+    let mut cluster = MemCluster::new(alloc, vec![in alloc; fails_at(2)]?);
+    assert_eq!(rt; cluster.create(BODY), Ok(()));
+    assert_eq!(rt; cluster.take_file(BODY).map(|_| ()), Err(StoreFault));
+    assert_eq!(rt; cluster.take_file(BODY).map(|_| ()), Ok(()));
+    assert_eq!(rt; cluster.content_of(BODY), None);
+    assert_eq!(rt; cluster.faults(), 1);
+    Ok(())
+}
