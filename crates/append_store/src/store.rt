@@ -55,7 +55,7 @@ pub trait AppendFile: Drop {
 
     /// How many bytes the file has.
     fn len(&self) -> u64
-        ensures { tells → result ≡ length (content self.now) };
+        ensures { result ≡ length (content self.now) };
 
     /// How often the file has failed since it was taken. The count never falls, and stays at the
     /// greatest u64.

@@ -184,7 +184,7 @@ work_stores (Put number start (b ∷ bytes) asked level place) all ticket w t at
     to : ℕ
     to = start + length (b ∷ bytes)
 
-    go : (c : Called) → Stores w (length (joined (piece_of (Put number start (b ∷ bytes) asked level place)))) (appended c to ticket asked level w (next_call t).ahead)
+    go : (c : Called) → Stores w (length (joined (piece_of (Put number start (b ∷ bytes) asked level place)))) (appended c start (length (b ∷ bytes)) ticket asked level w (next_call t).ahead)
     go Good =
         let v : Writer = record w { stored = max w.stored to } in
         let all_bytes = ap length (append-nil (b ∷ bytes)) in
