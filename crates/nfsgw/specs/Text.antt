@@ -55,11 +55,17 @@ why_text Ended = codes "end"
 unfoldable pub context_text : ℕ → ℕ → List ℕ
 context_text file from = codes "context " ++ decimal file ++ codes " from " ++ decimal from ++ codes "\n"
 
-unfoldable pub write_text : WriteLine → List ℕ
-write_text w = codes "write " ++ decimal w.number ++ codes " " ++ decimal w.offset ++ codes " " ++ decimal w.count ++ codes " " ++ fate_text w.fate ++ codes " " ++ place_text w.place ++ codes "\n"
+unfoldable pub range_text : ℕ → ℕ → ℕ → List ℕ → List ℕ → List ℕ
+range_text number offset count fate place = codes "write " ++ decimal number ++ codes " " ++ decimal offset ++ codes " " ++ decimal count ++ codes " " ++ fate ++ codes " " ++ place ++ codes "\n"
 
-unfoldable pub ended_text : ℕ → History → List ℕ
-ended_text file h = codes "ended " ++ decimal file ++ codes " " ++ why_text h.why ++ codes " reach " ++ decimal h.reach ++ codes " stored " ++ decimal h.stored ++ codes " synced " ++ decimal h.synced ++ codes "\n"
+abbrev pub write_text : WriteLine → List ℕ
+write_text w = range_text w.number w.offset w.count (fate_text w.fate) (place_text w.place)
+
+unfoldable pub end_text : ℕ → List ℕ → ℕ → ℕ → ℕ → List ℕ
+end_text file why reach stored synced = codes "ended " ++ decimal file ++ codes " " ++ why ++ codes " reach " ++ decimal reach ++ codes " stored " ++ decimal stored ++ codes " synced " ++ decimal synced ++ codes "\n"
+
+abbrev pub ended_text : ℕ → History → List ℕ
+ended_text file h = end_text file (why_text h.why) h.reach h.stored h.synced
 
 -- the history of a context that ended
 abbrev pub history_text : ℕ → History → List ℕ

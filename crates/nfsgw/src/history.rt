@@ -1,7 +1,7 @@
 // The lines of a history.
 ghost use Rattle.std.specs.Prelude.{◌≡◌, ◌++◌, OnOk, string_bytes};
 ghost use Rattle.gw_model.specs.Ending.{Ended};
-ghost use Rattle.nfsgw.specs.Text.{context_text, write_text, ended_text, fate_text};
+ghost use Rattle.nfsgw.specs.Text.{context_text, range_text, write_text, end_text, fate_text, why_text};
 ghost use Rattle.nfsgw.specs.Steps.{fate_by, range_by};
 
 use crate::open_file::Range;
@@ -32,8 +32,22 @@ fn fate(range: Range, stored: u64, failed: bool) -> &'static str
     }
 }
 
+#[tactic(auto, unfolding(crate::specs::Text::range_text))]
+fn push_range(
+    out: &mut String,
+    number: u64,
+    range: Range,
+    fate: &str,
+    place: &str,
+) -> Result<(), AllocError>
+    ensures { OnOk result (string_bytes out.new ≡ string_bytes out.old ++ range_text number range.offset range.count fate.now place.now) }
+{
+    let offset = range.offset;
+    let count = range.count;
+    write!(out, "write {number} {offset} {count} {fate} {place}\n")
+}
+
 /// The line of an accepted write, by its number from 1.
-#[tactic(auto, unfolding(crate::specs::Text::write_text))]
 pub fn push_write(
     out: &mut String,
     number: u64,
@@ -43,19 +57,30 @@ pub fn push_write(
 ) -> Result<(), AllocError>
     ensures { OnOk result (string_bytes out.new ≡ string_bytes out.old ++ write_text (range_by failed stored number range)) }
 {
-    let fate = fate(range, stored, failed);
-    write!(out, "write {number} {} {} {fate} -\n", range.offset, range.count)
+    push_range(out, number, range, fate(range, stored, failed), "-")
+}
+
+#[tactic(auto, unfolding(crate::specs::Text::end_text))]
+fn push_end(
+    out: &mut String,
+    why: &str,
+    reach: u64,
+    stored: u64,
+    synced: u64,
+) -> Result<(), AllocError>
+    ensures { OnOk result (string_bytes out.new ≡ string_bytes out.old ++ end_text 4 why.now reach stored synced) }
+{
+    write!(out, "ended {FILE} {why} reach {reach} stored {stored} synced {synced}\n")
 }
 
 /// The last line of a history at the end of a transcript.
-#[tactic(auto, unfolding(crate::specs::Text::ended_text))]
 pub fn push_ended(
     out: &mut String,
     reach: u64,
     stored: u64,
     synced: u64,
 ) -> Result<(), AllocError>
-    ensures { OnOk result (string_bytes out.new ≡ string_bytes out.old ++ ended_text 4 (record { from = synced; writes = []; why = Ended; reach = reach; stored = stored; synced = synced })) }
+    ensures { OnOk result (string_bytes out.new ≡ string_bytes out.old ++ end_text 4 (why_text Ended) reach stored synced) }
 {
-    write!(out, "ended {FILE} end reach {reach} stored {stored} synced {synced}\n")
+    push_end(out, "end", reach, stored, synced)
 }

@@ -1,5 +1,5 @@
 // Replies to WRITE, and their lines of the output.
-ghost use Rattle.std.specs.Prelude.{◌≡◌, ◌++◌, IfOk, OnOk, string_bytes};
+ghost use Rattle.std.specs.Prelude.{◌≡◌, ◌≤◌, ◌++◌, IfOk, OnOk, string_bytes};
 ghost use Rattle.gw_model.specs.declared.Stable.TheVariants.{Unstable};
 ghost use Rattle.nfsgw.specs.Text.{accepted_head, wrote_reply, refused_reply, hex_line, reply_line};
 ghost use Rattle.nfsgw.specs.Steps.{refusal as refusal_line};
