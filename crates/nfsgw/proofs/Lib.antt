@@ -1,3 +1,4 @@
 mod Rows
 pub mod Book
 pub mod Plain
+pub mod Replies
