@@ -2,3 +2,4 @@ mod Rows
 pub mod Book
 pub mod Plain
 pub mod Replies
+pub mod Taking
