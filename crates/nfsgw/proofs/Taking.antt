@@ -1,6 +1,6 @@
 -- A write at the end of the file, where nothing hangs, is accepted and goes to the line at once.
-use Rattle.std.proofs.Common.{◌≡◌, ℕ, ◌+◌, ◌-◌, ◌<◌, ◌≤◌, max, Bool, true, false, Option, None, Some, List, [], ◌∷◌, ◌++◌, map, length, drop, nat_lt, nat_le, refl, sym, ◌∙◌, ap, append_assoc, append-nil, arith}
-use Rattle.std.specs.Prelude.{◌^◌}
+use Rattle.std.proofs.Common.{◌≡◌, ℕ, ◌+◌, ◌-◌, ◌<◌, ◌≤◌, max, Bool, true, false, ◌&&◌, Option, None, Some, List, [], ◌∷◌, ◌++◌, map, length, drop, nat_lt, nat_le, refl, sym, ◌∙◌, ap, append_assoc, append-nil, arith}
+use Rattle.std.specs.Prelude.{◌^◌, if◌then◌else◌}
 use Rattle.std.proofs.lemmas.Bool.{le-leb, lt-leb, le-ltb, lt-ltb}
 use Rattle.std.proofs.lemmas.Grind.{flat_map-append}
 use Rattle.std.proofs.lemmas.List.{map-append, length-map}
@@ -71,3 +71,70 @@ module _ (base : List ℕ) (ws : List Accepted) (bytes : List ℕ) (ticket : ℕ
 
   puts_new : new_puts base ws (ws ++ new ∷ []) ≡ put_of (piece_of (length ws + 1) (reach base ws) bytes ticket) ∷ []
   puts_new = (accepted_by base ws new (omega arith) refl).puts_are ∙ ap (map put_of) walk_new
+
+-- the book with one more write
+abbrev pub with_write : ℕ → ℕ → ℕ → List ℕ → Book → Book
+with_write ticket conn xid bytes b = record b {
+  accepted = b.accepted ++ write_at (length b.accepted + 1) (reach b.base b.accepted) bytes ticket ∷ [];
+  pending = b.pending ++ record { number = length b.accepted + 1; start = reach b.base b.accepted; ticket = ticket; conn = conn; xid = xid; content = bytes } ∷ [];
+  changed = Some 0;
+}
+
+module _ (ticket conn xid : ℕ) (bytes : List ℕ) (b : Book) where
+  abbrev r : ℕ
+  r = reach b.base b.accepted
+
+  abbrev w : Accepted
+  w = write_at (length b.accepted + 1) r bytes ticket
+
+  abbrev p : Pending
+  p = record { number = length b.accepted + 1; start = r; ticket = ticket; conn = conn; xid = xid; content = bytes }
+
+  -- what is held once these Puts are issued and sent
+  abbrev held_after : Bool → List Job → Held
+  held_after longer puts =
+      used_at unlimited 0 (record { ready = puts ++ []; line = map job_of b.pending; waiting = []; hull = (if longer then None else None); phase = Live; used = 0; changed = Some 0; placed = 0 })
+
+  held_is : (longer : Bool) → length b.pending < 2 ^ 64 → held_after longer (job_of p ∷ []) ≡ (file_of (with_write ticket conn xid bytes b)).held
+  unfolding used_at send_ready
+  held_is longer few = go longer (lt-ltb (length (map job_of b.pending)) (2 ^ 64) (omega (arith, length-map b.pending job_of, few)))
+    where
+      line : List Job → Held
+      line js = record { ready = []; line = js; waiting = []; hull = None; phase = Live; used = 0; changed = Some 0; placed = 0 }
+
+      go : (longer : Bool) → nat_lt (length (map job_of b.pending)) (2 ^ 64) ≡ true → held_after longer (job_of p ∷ []) ≡ (file_of (with_write ticket conn xid bytes b)).held
+      go true room = rw room (ap line (sym (map-append job_of b.pending (p ∷ []))))
+      go false room = rw room (ap line (sym (map-append job_of b.pending (p ∷ []))))
+
+  abbrev file_with : Accepted → Bool → List Job → File
+  file_with x longer puts = record (file_of b) { accepted = b.accepted ++ x ∷ []; held = held_after longer puts }
+
+  abbrev taken_with : Ahead → Accepted → Bool → Step
+  taken_with t x early =
+      let f : File = file_with x (nat_lt r (reach b.base (b.accepted ++ x ∷ []))) (new_puts b.base b.accepted (b.accepted ++ x ∷ [])) in
+      record { file = f; answers = early_answers early (request_at r bytes ticket); ahead = t; uses = true }
+
+  abbrev taken_step : Ahead → Step
+  taken_step t = record { file = file_of (with_write ticket conn xid bytes b); answers = []; ahead = t; uses = true }
+
+  is_taken_with : (t : Ahead) → taken unlimited (file_of b) (request_at r bytes ticket) t ≡ taken_with t (write_from (length b.accepted + 1) r (request_at r bytes ticket)) (is_early r (request_at r bytes ticket))
+  unfolding accept used_at send_ready
+  is_taken_with t = refl
+
+  taken_is : (t : Ahead) → hung b.base b.accepted ≡ [] → length b.pending < 2 ^ 64 → taken unlimited (file_of b) (request_at r bytes ticket) t ≡ taken_step t
+  taken_is t none few =
+      is_taken_with t
+      ∙ ap (λ x. taken_with t x (is_early r (request_at r bytes ticket))) (written_at (length b.accepted + 1) r bytes ticket)
+      ∙ ap (λ above. taken_with t w (above && true)) (not_above r)
+      ∙ ap (λ puts. let s : Step = record { file = file_with w (nat_lt r (reach b.base (b.accepted ++ w ∷ []))) puts; answers = []; ahead = t; uses = true } in s) (puts_new b.base b.accepted bytes ticket none)
+      ∙ ap (λ h. let s : Step = record { file = record (file_of b) { accepted = b.accepted ++ w ∷ []; held = h }; answers = []; ahead = t; uses = true } in s) (held_is (nat_lt r (reach b.base (b.accepted ++ w ∷ []))) few)
+
+  -- The definition's step: the write is accepted and nothing is answered.
+  pub write_is : (t : Ahead) → refused t ≡ false → hung b.base b.accepted ≡ [] → length b.pending < 2 ^ 64 → length b.accepted < 2 ^ 64 → 0 < length bytes → length bytes < 2 ^ 63
+      → write unlimited (file_of b) (request_at r bytes ticket) t ≡ taken_step t
+  unfolding write
+  write_is t allowed none few few_accepted some short =
+      let side : List Accepted → Side = λ xs. record { seen = record { reach = r; top = top_of b.base b.accepted; pending = xs; entries = map (entry_of []) b.accepted }; held = (file_of b).held } in
+      let verdict = ap (λ xs. judge_write unlimited (side xs) (request_at r bytes ticket)) none
+          ∙ judged r (top_of b.base b.accepted) (map (entry_of []) b.accepted) (file_of b).held bytes ticket refl refl some short (omega (arith, length-map b.accepted (entry_of []), few_accepted)) in
+      ap (λ b'. write_if b' unlimited (file_of b) (request_at r bytes ticket) t) allowed ∙ ap (λ v. write_by v unlimited (file_of b) (request_at r bytes ticket) t) verdict ∙ taken_is t none few
