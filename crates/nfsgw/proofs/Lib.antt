@@ -3,3 +3,4 @@ pub mod Book
 pub mod Plain
 pub mod Replies
 pub mod Taking
+pub mod Accepts
