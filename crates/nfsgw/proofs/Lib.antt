@@ -7,3 +7,4 @@ pub mod Accepts
 pub mod Turns
 pub mod Ends
 pub mod Bridge
+pub mod Scripts
