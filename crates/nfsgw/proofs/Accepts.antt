@@ -9,15 +9,15 @@ use Rattle.std.proofs.Math.Seq.{take-append_seam}
 use Rattle.transcript.specs.Script.{max_lines}
 use Rattle.gw_model.specs.Order.{Accepted, fold, reach}
 use Rattle.gw_model.specs.Ahead.{Ahead, Called, Good, Bad, next_call}
-use Rattle.gw_model.specs.File.{Step, content, reach_of}
+use Rattle.gw_model.specs.File.{content}
 use Rattle.gw_model.specs.Admission.{write, io}
-use Rattle.nfsgw.specs.World.{Asked, World, Turned, unlimited, fbig, notsupp, ask, request, do_write, write_in, write_if, opened_for, of_step, in_order_if}
+use Rattle.nfsgw.specs.World.{World, Turned, unlimited, fbig, notsupp, ask, request, do_write, write_in, write_if, opened_for, of_step, in_order_if}
 use Rattle.nfsgw.specs.Steps as steps
 use Rattle.nfsgw.specs.Steps.{Context}
 use Rattle.nfsgw.specs.declared.call.WriteCall.{WriteCall}
 use Rattle.nfsgw.specs.declared.world.Range.{Range}
 use Rattle.nfsgw.specs.declared.world.HeldWrite.{HeldWrite}
-use Rattle.nfsgw.proofs.Book.{Book, Pending, asked_of, held_of, range_of, file_of, context_of, world_of, state_of, body_at, AreRows, Rise, Follow, NoneEmpty, bytes_of, Sound, AllSound, IsPlain, Leads}
+use Rattle.nfsgw.proofs.Book.{Book, Pending, asked_of, held_of, range_of, file_of, context_of, world_of, state_of, AreRows, Rise, Follow, NoneEmpty, bytes_of, Sound, AllSound, IsPlain, Leads}
 use Rattle.nfsgw.proofs.Plain.{not_refused, plain_next}
 use Rattle.nfsgw.proofs.Replies.{refused_leads}
 use Rattle.nfsgw.proofs.Taking.{with_write, write_at, request_at, write_is, fold_new, none_hangs_new}

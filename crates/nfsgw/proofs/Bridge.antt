@@ -83,9 +83,9 @@ module _ (body : List ℕ) where
     goes_on before o lines turned step l same later =
         let to = turned_to l.next l.issued step.stopped step.text step.ahead in
         let turned_is : to ≡ turned = sym (
-          ap (λ w. let x : Turned = record { world = w; text = turned.text; ahead = turned.ahead } in x) l.world
-          ∙ ap (λ text. let x : Turned = record { world = world_of body l.next l.issued step.stopped; text = text; ahead = turned.ahead } in x) l.text
-          ∙ ap (λ t. turned_to l.next l.issued step.stopped step.text t) l.ahead
+        ap (λ w. let x : Turned = record { world = w; text = turned.text; ahead = turned.ahead } in x) l.world
+        ∙ ap (λ text. let x : Turned = record { world = world_of body l.next l.issued step.stopped; text = text; ahead = turned.ahead } in x) l.text
+        ∙ ap (λ t. turned_to l.next l.issued step.stopped step.text t) l.ahead
         ) in
         let put : body_at body l.next ≡ before ++ step.put = l.put ∙ ap (λ xs. xs ++ step.put) same in
         let here = by_stop before step.text step.put l.next l.issued step.stopped step.ahead put later in
@@ -102,7 +102,7 @@ module _ (body : List ℕ) where
   run_is (event ∷ events) o n lines t few small s plain =
       let l = event_leads o n lines event t small.0 (omega (arith, few)) s plain in
       goes_on events (body_at body o) o lines (next (world_of body o n false) event t) (step_of (length body) (state_of o) event t) l refl
-        (run_is events l.next l.issued (lines + 1) (step_of (length body) (state_of o) event t).ahead (omega (arith, few)) small.1 l.sound l.plain)
+      (run_is events l.next l.issued (lines + 1) (step_of (length body) (state_of o) event t).ahead (omega (arith, few)) small.1 l.sound l.plain)
 
 pub bridge : (body : List ℕ) (events : List Event) (calls : List Called) → length events ≤ max_lines → AllSmall events → IsTold body (told_of (start body) events (ahead_of calls)) (gone_of (length body) None events (ahead_of calls))
 bridge body events calls few small = run_is body events None 0 0 (ahead_of calls) (omega (arith, few)) small tt (plain_calls calls)

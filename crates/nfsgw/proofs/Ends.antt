@@ -1,5 +1,5 @@
 -- The history of the open file is that of the context.
-use Rattle.std.proofs.Common.{◌≡◌, ℕ, ◌+◌, Bool, true, false, ◌&&◌, ◌||◌, Option, None, Some, List, [], ◌∷◌, ◌++◌, map, length, nat_lt, refl, sym, ◌∙◌, ap}
+use Rattle.std.proofs.Common.{◌≡◌, ℕ, ◌+◌, Bool, true, false, ◌&&◌, ◌||◌, Option, None, Some, List, [], ◌∷◌, ◌++◌, map, length, nat_lt, refl, ◌∙◌, ap}
 use Rattle.std.specs.Prelude.{is_some, if◌then◌else◌}
 use Rattle.std.specs.List.{flat_map}
 use Rattle.gw_model.specs.Order.{Accepted, end_of}
@@ -8,7 +8,7 @@ use Rattle.gw_model.specs.Ending.{Fate, Lost, Stored, Open, WriteLine, Ended, fa
 use Rattle.nfsgw.specs.Text.{context_text, write_text, ended_text, history_text}
 use Rattle.nfsgw.specs.World.{end_text}
 use Rattle.nfsgw.specs.Steps as steps
-use Rattle.nfsgw.proofs.Book.{Book, range_of, file_of, context_of, world_of, state_of, AreRows, Sound, AllSound}
+use Rattle.nfsgw.proofs.Book.{Book, range_of, file_of, context_of, world_of, state_of, AreRows, AllSound}
 
 -- the fate of a write that wasn't given up, by whether it ends past what is stored and whether the writer failed
 same_fate : (past failed : Bool) → let f : Fate = if false || past && (failed || false) then Lost else if past then Open else Stored in f ≡ (if past then (if failed then Lost else Open) else Stored)

@@ -1,5 +1,5 @@
 -- Outcomes among which memory is never refused.
-use Rattle.std.proofs.Common.{◌≡◌, ℕ, Bool, false, List, [], ◌∷◌, map, refl}
+use Rattle.std.proofs.Common.{◌≡◌, false, List, [], ◌∷◌, map, refl}
 use Rattle.gw_model.specs.Ahead.{Ahead, Outcome, Done, Failed, Listed, NoMemory, Called, Good, Bad, refused, next_call}
 use Rattle.nfsgw.specs.Headline.{outcome_of}
 use Rattle.nfsgw.proofs.Book.{IsPlain}

@@ -1,13 +1,13 @@
 -- An answer goes to the request that has its ticket, which then waits no more.
-use Rattle.std.proofs.Common.{◌≡◌, ℕ, ◌+◌, ◌<◌, ◌≤◌, Bool, true, false, not, Option, None, Some, List, [], ◌∷◌, ◌++◌, map, refl, sym, ◌∙◌, ap, append-nil, arith}
+use Rattle.std.proofs.Common.{◌≡◌, ℕ, ◌+◌, ◌<◌, ◌≤◌, true, false, Option, None, Some, List, [], ◌∷◌, ◌++◌, map, refl, sym, ◌∙◌, ap, append-nil, arith}
 use Rattle.std.specs.Prelude.{◌==◌}
 use Rattle.std.proofs.lemmas.Bool.Decides.{nat_tests}
 use Rattle.gw_model.specs.Ahead.{Ahead}
-use Rattle.gw_model.specs.File.{Body, NotWritten, Answer}
+use Rattle.gw_model.specs.File.{Body, NotWritten}
 use Rattle.nfsgw.specs.Text.{reply_line}
 use Rattle.nfsgw.specs.World.{Asked, World, answer_text, reply_bytes, without, answer, ask}
 use Rattle.nfsgw.specs.Steps as steps
-use Rattle.nfsgw.proofs.Book.{Book, Pending, asked_of, world_of, state_of, body_at, Rise, Sound, AllSound, IsPlain, Leads}
+use Rattle.nfsgw.proofs.Book.{Book, Pending, asked_of, world_of, state_of, Rise, Sound, AllSound, IsPlain, Leads}
 
 same_ticket : (n : ℕ) → (n == n) ≡ true
 same_ticket n = grind (arith, nat_tests)

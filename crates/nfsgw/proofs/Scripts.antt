@@ -1,5 +1,5 @@
 -- The events of a transcript: how many they are, and how many bytes a write has.
-use Rattle.std.proofs.Common.{◌≡◌, ℕ, ◌+◌, ◌*◌, ◌<◌, ◌≤◌, Bool, true, false, ◌&&◌, cond, Option, None, Some, List, [], ◌∷◌, ◌++◌, length, take, drop, nat_lt, nat_le, refl, sym, ◌∙◌, ap, arith}
+use Rattle.std.proofs.Common.{◌≡◌, ℕ, ◌+◌, ◌*◌, ◌<◌, ◌≤◌, Bool, true, false, ◌&&◌, Option, None, Some, List, [], ◌∷◌, length, take, drop, nat_lt, nat_le, refl, arith}
 use Rattle.std.specs.Prelude.{◌^◌, bytes_eq, nat_eq, position, codes, ◌==◌, if◌then◌else◌}
 use Rattle.std.specs.List.{starts_with}
 use Rattle.std.proofs.lemmas.Bool.Decides.{nat_tests}
@@ -8,12 +8,12 @@ use Rattle.transcript.specs.Fields.{number_of, bytes_of}
 use Rattle.transcript.specs.Script.{Reading, Last, Goes, Refused, Script, stops, script_of, line_then, may_be_line, max_lines, max_line, parts, AtOpen, AtBad}
 use Rattle.gw_model.specs.Ahead.{Called}
 use Rattle.nfsgw.specs.Call.{fields_by, fields_of, field_word, same_text, call_of, call_text}
-use Rattle.nfsgw.specs.Grammar.{read, reading_of, line_of, first_line, later_line, bytes_line, call_in, write_line, is_name}
+use Rattle.nfsgw.specs.Grammar.{read, reading_of, line_of, bytes_line, call_in, write_line, is_name}
 use Rattle.nfsgw.specs.Headline.{script, output, ahead_of}
 use Rattle.nfsgw.specs.Steps.{gone_of}
 use Rattle.nfsgw.specs.declared.call.WriteCall.{WriteCall}
 use Rattle.nfsgw.specs.declared.grammar.Event.{Event}
-use Rattle.nfsgw.specs.declared.grammar.Event.TheVariants.{MakeFile, Write, Turn}
+use Rattle.nfsgw.specs.declared.grammar.Event.TheVariants.{MakeFile, Turn}
 use Rattle.nfsgw.specs.declared.grammar.Line.{Line}
 use Rattle.nfsgw.specs.declared.grammar.Line.TheVariants.{Go, End}
 use Rattle.nfsgw.proofs.Book.{IsSmall, AllSmall}
@@ -118,8 +118,8 @@ line_small false text =
     let last : Option Line = if starts_with nat_eq text (codes "bytes ") then sent else None in
     let turn : Option Line = if bytes_eq text (codes "turn 4") then Some (Go Turn) else last in
     by_test SmallLine (bytes_eq text (codes "end")) (Some End) turn tt
-      (by_test SmallLine (bytes_eq text (codes "turn 4")) (Some (Go Turn)) last tt
-        (by_test SmallLine (starts_with nat_eq text (codes "bytes ")) sent None (bytes_small (drop 6 text) (position (λ b. b == 32) (drop 6 text))) tt))
+    (by_test SmallLine (bytes_eq text (codes "turn 4")) (Some (Go Turn)) last tt
+    (by_test SmallLine (starts_with nat_eq text (codes "bytes ")) sent None (bytes_small (drop 6 text) (position (λ b. b == 32) (drop 6 text))) tt))
 
 reading_small : (line : Option Line) → SmallLine line → SmallReading (reading_of line)
 reading_small None h = tt
@@ -132,7 +132,7 @@ small_events first before [] = tt
 small_events first before (rest ∷ []) = by_test (λ s. AllSmall s.events) (may_be_line before rest) (stops AtOpen) (stops AtBad) tt tt
 small_events first before (line ∷ part ∷ lines) =
     by_test (λ s. AllSmall s.events) (may_be_line before line) (line_then (read first line) (λ later. script_of read later (before + 1) (part ∷ lines))) (stops AtBad)
-      (go (read first line) (reading_small (line_of first line) (line_small first line)) (λ later. small_events later (before + 1) (part ∷ lines))) tt
+    (go (read first line) (reading_small (line_of first line) (line_small first line)) (λ later. small_events later (before + 1) (part ∷ lines))) tt
   where
     go : (r : Reading Bool Event) → SmallReading r → ((later : Bool) → AllSmall (script_of read later (before + 1) (part ∷ lines)).events) → AllSmall (line_then r (λ later. script_of read later (before + 1) (part ∷ lines))).events
     go Last h more = tt

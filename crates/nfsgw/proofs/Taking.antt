@@ -1,5 +1,5 @@
 -- A write at the end of the file, where nothing hangs, is accepted and goes to the line at once.
-use Rattle.std.proofs.Common.{◌≡◌, ℕ, ◌+◌, ◌-◌, ◌<◌, ◌≤◌, max, Bool, true, false, ◌&&◌, Option, None, Some, List, [], ◌∷◌, ◌++◌, map, length, drop, nat_lt, nat_le, refl, sym, ◌∙◌, ap, append_assoc, append-nil, arith}
+use Rattle.std.proofs.Common.{◌≡◌, ℕ, ◌+◌, ◌-◌, ◌<◌, ◌≤◌, max, Bool, true, false, ◌&&◌, None, Some, List, [], ◌∷◌, ◌++◌, map, length, drop, nat_lt, nat_le, refl, sym, ◌∙◌, ap, append_assoc, append-nil, arith}
 use Rattle.std.specs.Prelude.{◌^◌, if◌then◌else◌}
 use Rattle.std.proofs.lemmas.Bool.{le-leb, lt-leb, le-ltb, lt-ltb}
 use Rattle.std.proofs.lemmas.Grind.{flat_map-append}
@@ -7,9 +7,8 @@ use Rattle.std.proofs.lemmas.List.{map-append, length-map}
 use Rattle.gw_model.specs.declared.Stable.TheVariants.{Unstable}
 use Rattle.gw_model.specs.Order.{Accepted, Piece, put_in, walk, pieces, joined, fold, reach, hung, beyond}
 use Rattle.gw_model.specs.Ahead.{Ahead, refused}
-use Rattle.gw_model.specs.File.{Job, Held, File, Step, Side, Entry, Live, side_of, entry_of, top_of}
+use Rattle.gw_model.specs.File.{Job, Held, File, Step, Side, Entry, Live, entry_of, top_of}
 use Rattle.gw_model.specs.Admission.{WriteRequest, Taken, judge_write, write, write_if, write_by, taken, accept, used_at, send_ready, write_from, new_puts, put_of, early_answers, is_early}
-use Rattle.gw_model.proofs.Fold.{walk_on}
 use Rattle.gw_model.proofs.Accepting.{pieces_added}
 use Rattle.gw_model.proofs.Accepted.{accepted_by}
 use Rattle.nfsgw.specs.World.{unlimited}
@@ -136,5 +135,5 @@ module _ (ticket conn xid : ℕ) (bytes : List ℕ) (b : Book) where
   write_is t allowed none few few_accepted some short =
       let side : List Accepted → Side = λ xs. record { seen = record { reach = r; top = top_of b.base b.accepted; pending = xs; entries = map (entry_of []) b.accepted }; held = (file_of b).held } in
       let verdict = ap (λ xs. judge_write unlimited (side xs) (request_at r bytes ticket)) none
-          ∙ judged r (top_of b.base b.accepted) (map (entry_of []) b.accepted) (file_of b).held bytes ticket refl refl some short (omega (arith, length-map b.accepted (entry_of []), few_accepted)) in
+      ∙ judged r (top_of b.base b.accepted) (map (entry_of []) b.accepted) (file_of b).held bytes ticket refl refl some short (omega (arith, length-map b.accepted (entry_of []), few_accepted)) in
       ap (λ b'. write_if b' unlimited (file_of b) (request_at r bytes ticket) t) allowed ∙ ap (λ v. write_by v unlimited (file_of b) (request_at r bytes ticket) t) verdict ∙ taken_is t none few
