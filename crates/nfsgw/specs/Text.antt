@@ -61,11 +61,11 @@ range_text number offset count fate place = codes "write " ++ decimal number ++ 
 abbrev pub write_text : WriteLine → List ℕ
 write_text w = range_text w.number w.offset w.count (fate_text w.fate) (place_text w.place)
 
-unfoldable pub end_text : ℕ → List ℕ → ℕ → ℕ → ℕ → List ℕ
-end_text file why reach stored synced = codes "ended " ++ decimal file ++ codes " " ++ why ++ codes " reach " ++ decimal reach ++ codes " stored " ++ decimal stored ++ codes " synced " ++ decimal synced ++ codes "\n"
+unfoldable pub ended_line : ℕ → List ℕ → ℕ → ℕ → ℕ → List ℕ
+ended_line file why reach stored synced = codes "ended " ++ decimal file ++ codes " " ++ why ++ codes " reach " ++ decimal reach ++ codes " stored " ++ decimal stored ++ codes " synced " ++ decimal synced ++ codes "\n"
 
 abbrev pub ended_text : ℕ → History → List ℕ
-ended_text file h = end_text file (why_text h.why) h.reach h.stored h.synced
+ended_text file h = ended_line file (why_text h.why) h.reach h.stored h.synced
 
 -- the history of a context that ended
 abbrev pub history_text : ℕ → History → List ℕ

@@ -1,7 +1,7 @@
 // The lines of a history.
 ghost use Rattle.std.specs.Prelude.{◌≡◌, ◌++◌, OnOk, string_bytes};
 ghost use Rattle.gw_model.specs.Ending.{Ended};
-ghost use Rattle.nfsgw.specs.Text.{context_text, range_text, write_text, end_text, fate_text, why_text};
+ghost use Rattle.nfsgw.specs.Text.{context_text, range_text, write_text, ended_line, fate_text, why_text};
 ghost use Rattle.nfsgw.specs.Steps.{fate_by, range_by};
 
 use crate::open_file::Range;
@@ -60,7 +60,7 @@ pub fn push_write(
     push_range(out, number, range, fate(range, stored, failed), "-")
 }
 
-#[tactic(auto, unfolding(crate::specs::Text::end_text))]
+#[tactic(auto, unfolding(crate::specs::Text::ended_line))]
 fn push_end(
     out: &mut String,
     why: &str,
@@ -68,7 +68,7 @@ fn push_end(
     stored: u64,
     synced: u64,
 ) -> Result<(), AllocError>
-    ensures { OnOk result (string_bytes out.new ≡ string_bytes out.old ++ end_text 4 why.now reach stored synced) }
+    ensures { OnOk result (string_bytes out.new ≡ string_bytes out.old ++ ended_line 4 why.now reach stored synced) }
 {
     write!(out, "ended {FILE} {why} reach {reach} stored {stored} synced {synced}\n")
 }
@@ -80,7 +80,7 @@ pub fn push_ended(
     stored: u64,
     synced: u64,
 ) -> Result<(), AllocError>
-    ensures { OnOk result (string_bytes out.new ≡ string_bytes out.old ++ end_text 4 (why_text Ended) reach stored synced) }
+    ensures { OnOk result (string_bytes out.new ≡ string_bytes out.old ++ ended_line 4 (why_text Ended) reach stored synced) }
 {
     push_end(out, "end", reach, stored, synced)
 }
