@@ -4,3 +4,4 @@ pub mod World
 pub mod Grammar
 pub mod Headline
 pub mod Steps
+pub mod Found
