@@ -1,17 +1,15 @@
 -- A call's bytes by their parts, and what is found in them.
-use Rattle.std.proofs.Common.{◌≡◌, ℕ, ◌+◌, ◌-◌, ◌*◌, ◌%◌, ◌^◌, ◌<◌, ◌≤◌, ◌&&◌, nat_lt, nat_le, bytes_eq, Bool, true, false, cond, List, [], ◌∷◌, ◌++◌, length, take, drop, replicate, Option, Some, None, refl, sym, ◌∙◌, ap, append_assoc, append-nil, length-append, length-drop, arith}
-use Rattle.std.specs.Option.{option_map}
-use Rattle.std.specs.Int.{w32, from_be_bytes}
+use Rattle.std.proofs.Common.{◌≡◌, ℕ, ◌+◌, ◌-◌, ◌*◌, ◌^◌, ◌<◌, ◌≤◌, ◌&&◌, nat_lt, nat_le, bytes_eq, Bool, true, false, List, ◌++◌, length, take, drop, replicate, Some, None, refl, sym, ◌∙◌, ap, append_assoc, append-nil, length-append, length-drop, arith}
 use Rattle.std.proofs.lemmas.Slice.Eq.{bytes_eq-Decides}
 use Rattle.std.proofs.lemmas.Bool.Decides.{nat_tests}
 use Rattle.std.proofs.lemmas.List.{take-append-drop, length-take-le}
-use Rattle.std.proofs.Math.Seq.{take-append_seam, drop-append_seam, drop-append-add}
+use Rattle.std.proofs.Math.Seq.{take-append_seam, drop-append_seam}
 use Rattle.xdr.specs.Items.{word, long, pad_len, fixed_text}
 use Rattle.handles.specs.Handle.{handle_text}
 use Rattle.handles.proofs.Handles.{length-handle}
 use Rattle.nfsgw.specs.declared.call.Found.{Found}
 use Rattle.nfsgw.specs.declared.call.WriteCall.{WriteCall}
-use Rattle.nfsgw.specs.Call.{call_head, write_args, call_text, field_word, fields_by, fields_of, same_text, call_of}
+use Rattle.nfsgw.specs.Call.{call_head, write_args, call_text, field_word, fields_by, fields_of, call_of}
 use Rattle.nfsgw.specs.Found.{found_call}
 
 -- lengths

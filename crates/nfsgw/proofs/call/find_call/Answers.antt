@@ -1,4 +1,4 @@
-use Rattle.std.proofs.Common.{◌≡◌, sym, ◌∙◌}
+use Rattle.std.proofs.Common.{sym, ◌∙◌}
 use Rattle.nfsgw.specs.Found.{found_call}
 use Rattle.nfsgw.proofs.CallParts.{call_of-none, call_of-some, call_of-other}
 use Rattle.nfsgw.proofs.call.find_call.Goals as goal

@@ -1,5 +1,4 @@
-use Rattle.std.proofs.Common.{◌≡◌, sym, ◌∙◌, ap, arith}
-use Rattle.nfsgw.specs.Call.{field_word, fields_of}
+use Rattle.std.proofs.Common.{sym, arith}
 use Rattle.nfsgw.proofs.CallParts.{fields_short, fields_found}
 use Rattle.nfsgw.proofs.call.find_fields.Goals as goal
 

@@ -1,5 +1,4 @@
-use Rattle.std.proofs.Common.{◌≡◌, refl, ◌∙◌}
-use Rattle.handles.specs.Handle.{handle_text}
+use Rattle.std.proofs.Common.{refl, ◌∙◌}
 use Rattle.nfsgw.proofs.CallParts.{fixed_handle}
 use Rattle.nfsgw.proofs.call.text_before_data.Goals as goal
 
