@@ -1,2 +1,3 @@
 mod Rows
 pub mod CallParts
+pub mod CallLaw

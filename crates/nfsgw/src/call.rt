@@ -1,9 +1,10 @@
 // One WRITE call as exact bytes.
-ghost use Rattle.std.specs.Prelude.{◌≡◌, ◌+◌, ◌-◌, ◌*◌, ◌%◌, ◌^◌, ◌≤◌, ◌<◌, ◌++◌, length, take, drop, replicate, bytes_eq, IfOk, IfSome, OnOk};
+ghost use Rattle.std.specs.Prelude.{◌≡◌, ◌+◌, ◌-◌, ◌*◌, ◌%◌, ◌^◌, ◌≤◌, ◌<◌, ◌++◌, length, take, drop, replicate, bytes_eq, List, ℕ, Some, IfOk, IfSome, OnOk};
 ghost use Rattle.std.specs.Option.{option_map};
 ghost use Rattle.handles.specs.Handle.{handle_text};
 ghost use Rattle.xdr.specs.Items.{pad_len};
-ghost use Rattle.nfsgw.specs.Call.{call_head, write_args, call_text, field_word, fields_of, call_of};
+ghost use Rattle.nfsgw.specs.Call.{call_head, write_args, call_text, field_word, fields_of, call_of, IsCall};
+ghost use Rattle.nfsgw.specs.declared.call.WriteCall.{WriteCall as WriteCallTerm};
 ghost use Rattle.nfsgw.specs.Found.{found_call};
 
 use bytes::Bytes;
@@ -177,3 +178,9 @@ pub fn read_call(alloc: Global, message: Bytes) -> Result<Option<WriteCall>, All
         content: message.slice(DATA_PLACE..end)?,
     }))
 }
+
+/// A call is read from its own text, and from no other bytes.
+pub fn call_law()
+    ensures read_as { (bytes : List ℕ) (call : WriteCallTerm) → call_of bytes ≡ Some call → IsCall bytes call }
+    ensures spelled { (bytes : List ℕ) (call : WriteCallTerm) → IsCall bytes call → call_of bytes ≡ Some call }
+{}
