@@ -10,3 +10,5 @@ pub mod Turns
 pub mod Ends
 pub mod Bridge
 pub mod Scripts
+pub mod CallParts
+pub mod CallLaw

@@ -7,3 +7,4 @@ pub mod Steps
 pub mod Replies
 pub mod Packed
 pub mod Outside
+pub mod Found
