@@ -1,6 +1,9 @@
 mod Rows
 pub mod Packing
 pub mod StepCases
+pub mod Runs
+pub mod Ready
+pub mod Finishes
 pub mod Book
 pub mod Plain
 pub mod Replies

@@ -8,3 +8,4 @@ pub mod Replies
 pub mod Packed
 pub mod Outside
 pub mod Found
+pub mod Progress
