@@ -1,6 +1,6 @@
 -- A call is read from just its own text.
-use Rattle.std.proofs.Common.{◌≡◌, ℕ, ◌+◌, ◌-◌, ◌*◌, ◌%◌, ◌^◌, ◌<◌, ◌≤◌, ◌&&◌, nat_lt, nat_le, bytes_eq, Bool, true, false, cond, List, [], ◌∷◌, ◌++◌, length, take, drop, replicate, Option, Some, None, refl, sym, ◌∙◌, ap, subst, append_assoc, length-append, length-drop, arith}
-use Rattle.std.specs.Int.{w32, w64, to_be_bytes, from_be_bytes}
+use Rattle.std.proofs.Common.{◌≡◌, ℕ, ◌+◌, ◌*◌, ◌^◌, ◌<◌, ◌≤◌, ◌&&◌, nat_lt, nat_le, bytes_eq, Bool, true, false, cond, List, ◌++◌, length, take, drop, replicate, Option, Some, None, refl, sym, ◌∙◌, ap, subst, append_assoc, length-append, length-drop, arith}
+use Rattle.std.specs.Int.{w32, to_be_bytes, from_be_bytes}
 use Rattle.std.proofs.lemmas.Nat.{from_be_bytes-to_be_bytes_4, from_be_bytes-to_be_bytes_8}
 use Rattle.std.proofs.lemmas.List.{length-take-le}
 use Rattle.std.proofs.lemmas.Slice.Eq.{bytes_eq-Decides}
@@ -11,7 +11,7 @@ use Rattle.handles.specs.Handle.{handle_text}
 use Rattle.handles.proofs.Handles.{length-handle}
 use Rattle.nfsgw.specs.declared.call.WriteCall.{WriteCall}
 use Rattle.nfsgw.specs.Call.{Fits, IsCall, call_head, write_args, call_text, field_word, fields_by, fields_of, same_text, call_of}
-use Rattle.nfsgw.proofs.CallParts.{head_len, args_len, before_data, before_len, fields_found, call_of-some}
+use Rattle.nfsgw.proofs.CallParts.{head_len, args_len, fields_found, call_of-some}
 
 -- the places of a call's own text
 

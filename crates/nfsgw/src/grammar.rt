@@ -1,9 +1,10 @@
 // The lines of a transcript.
-ghost use Rattle.std.specs.Prelude.{◌≡◌, ◌==◌, ◌<◌, ◌≤◌, drop, length, position, IfOk, IfSome};
+ghost use Rattle.std.specs.Prelude.{◌≡◌, ◌↔◌, ◌==◌, ◌<◌, Bool, List, ℕ, Some, length, position, IfOk, IfSome};
 ghost use Rattle.std.specs.List.{list_all};
 ghost use Rattle.transcript.specs.Fields.{number_of, bytes_of};
 ghost use Rattle.nfsgw.specs.Call.{call_of};
-ghost use Rattle.nfsgw.specs.Grammar.{in_name, is_name as is_name_text, first_line, later_line as later_line_of, bytes_line, call_in, write_line, line_of as line_of_text};
+ghost use Rattle.nfsgw.specs.Grammar.{in_name, is_name as is_name_text, first_line, later_line as later_line_of, bytes_line, call_in, write_line, line_of as line_of_text, IsLine};
+ghost use Rattle.nfsgw.specs.declared.grammar.Line.{Line as LineTerm};
 
 use crate::call::{WriteCall, read_call};
 use bytes::Bytes;
@@ -125,3 +126,8 @@ pub fn line_of(alloc: Global, first: bool, text: &[u8]) -> Result<Option<Line>, 
         later_line(alloc, text)
     }
 }
+
+/// The texts of the grammar are read as their lines, and no other text is a line.
+pub fn grammar_law()
+    ensures { (first : Bool) (text : List ℕ) (line : LineTerm) → IsLine first text line ↔ (line_of_text first text ≡ Some line) }
+{}
