@@ -184,3 +184,54 @@ pub fn call_law()
     ensures read_as { (bytes : List ℕ) (call : WriteCallTerm) → call_of bytes ≡ Some call → IsCall bytes call }
     ensures spelled { (bytes : List ℕ) (call : WriteCallTerm) → IsCall bytes call → call_of bytes ≡ Some call }
 {}
+
+#[cfg(test)]
+mod tests {
+    use super::*;
+    use std::test::Fail;
+    use transcript::decode;
+
+    // WRITE of `abcde` at offset 0, with the xid 1.
+    const CALL: &[u8; 216] =
+        b"80000068000000010000000000000002000186a3000000030000000700000000000000000000000000000000000000200000000000000004000000000000000121e0f2975a84e78cec58787af28bde1400000000000000000000000500000000000000056162636465000000";
+
+    fn read(
+        alloc: Global,
+        hex: &[u8],
+        place: usize,
+        byte: u8,
+    ) -> Result<Option<WriteCall>, AllocError> {
+        let Some(mut message) = decode(alloc, hex)? else {
+            return Ok(None);
+        };
+        if place < message.len() {
+            message[place] = byte;
+        }
+        read_call(alloc, Bytes::from_vec(message)?)
+    }
+
+    #[test]
+    fn reads_a_call(rt: HostRuntime) -> Result<(), Fail> {
+        match read(rt.alloc(), CALL, 0, 0x80)? {
+            Some(call) => {
+                assert_eq!(rt; call.xid, 1);
+                assert_eq!(rt; call.offset, 0);
+                assert_eq!(rt; call.content.as_slice(), b"abcde".as_slice());
+            }
+            None => assert!(rt; false),
+        }
+        Ok(())
+    }
+
+    #[test]
+    fn refuses_other_bytes(rt: HostRuntime) -> Result<(), Fail> {
+        let alloc = rt.alloc();
+        let mut longer = Vec::from_slice(alloc, CALL)?;
+        longer.extend_from_slice(b"00")?;
+        assert!(rt; read(alloc, &longer, 0, 0x80)?.is_none());
+        // The padding, and UNSTABLE.
+        assert!(rt; read(alloc, CALL, 107, 1)?.is_none());
+        assert!(rt; read(alloc, CALL, 95, 1)?.is_none());
+        Ok(())
+    }
+}
