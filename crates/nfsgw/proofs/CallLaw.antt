@@ -1,6 +1,6 @@
 -- A call is read from just its own text.
-use Rattle.std.proofs.Common.{◌≡◌, ℕ, ◌+◌, ◌-◌, ◌*◌, ◌%◌, ◌^◌, ◌<◌, ◌≤◌, ◌&&◌, nat_lt, nat_le, bytes_eq, Bool, true, false, cond, List, [], ◌∷◌, ◌++◌, length, take, drop, replicate, Option, Some, None, refl, sym, ◌∙◌, ap, subst, append_assoc, length-append, length-drop, arith}
-use Rattle.std.specs.Int.{w32, w64, to_be_bytes, from_be_bytes}
+use Rattle.std.proofs.Common.{◌≡◌, ℕ, ◌+◌, ◌*◌, ◌^◌, ◌<◌, ◌≤◌, ◌&&◌, nat_lt, nat_le, bytes_eq, Bool, true, false, cond, List, ◌++◌, length, take, drop, replicate, Option, Some, None, refl, sym, ◌∙◌, ap, subst, append_assoc, length-append, length-drop, arith}
+use Rattle.std.specs.Int.{w32, to_be_bytes, from_be_bytes}
 use Rattle.std.proofs.lemmas.Nat.{from_be_bytes-to_be_bytes_4, from_be_bytes-to_be_bytes_8}
 use Rattle.std.proofs.lemmas.List.{length-take-le}
 use Rattle.std.proofs.lemmas.Slice.Eq.{bytes_eq-Decides}
@@ -11,7 +11,7 @@ use Rattle.handles.specs.Handle.{handle_text}
 use Rattle.handles.proofs.Handles.{length-handle}
 use Rattle.nfsgw.specs.declared.call.WriteCall.{WriteCall}
 use Rattle.nfsgw.specs.Call.{Fits, IsCall, call_head, write_args, call_text, field_word, fields_by, fields_of, same_text, call_of}
-use Rattle.nfsgw.proofs.CallParts.{head_len, args_len, before_data, before_len, fields_found, call_of-some}
+use Rattle.nfsgw.proofs.CallParts.{head_len, args_len, fields_found, call_of-some}
 
 -- the places of a call's own text
 
@@ -86,7 +86,7 @@ spelled bytes call s =
     let x : field_word 4 text ≡ call.xid = at_4 call ∙ from_be_bytes-to_be_bytes_4 call.xid f.xid in
     let c : field_word 88 text ≡ count = at_80 call 8 ∙ args_count call.offset count (tail call) (omega (arith, f.few)) in
     let o : field_word 80 text * 2 ^ 32 + field_word 84 text ≡ call.offset =
-        ap (λ x. x * 2 ^ 32 + field_word 84 text) (at_80 call 0) ∙ (ap (λ x. in_args 0 call * 2 ^ 32 + x) (at_80 call 4) ∙ args_offset call.offset count (tail call) f.offset) in
+    ap (λ x. x * 2 ^ 32 + field_word 84 text) (at_80 call 0) ∙ (ap (λ x. in_args 0 call * 2 ^ 32 + x) (at_80 call 4) ∙ args_offset call.offset count (tail call) f.offset) in
     let d = data_is call in
     let long_enough : count + 100 ≤ length text = omega (arith, length-drop 100 text, ap length d, length-append call.content (replicate (pad_len count) 0), f.some) in
     let content : take count (tail call) ≡ call.content = take-append_seam call.content (replicate (pad_len count) 0) in
@@ -140,7 +140,7 @@ fits : (bytes : List ℕ) (call : WriteCall) → bytes ≡ call_text call → Fo
 fits bytes call t f =
     let x : call.xid ≡ from_be_bytes w32 (to_be_bytes w32 call.xid) = f.xid ∙ (ap (field_word 4) t ∙ at_4 call) in
     let o : call.offset ≡ in_args 0 call * 2 ^ 32 + in_args 4 call =
-        f.offset ∙ (ap (λ b. field_word 80 b * 2 ^ 32 + field_word 84 b) t ∙ (ap (λ x. x * 2 ^ 32 + field_word 84 (call_text call)) (at_80 call 0) ∙ ap (λ x. in_args 0 call * 2 ^ 32 + x) (at_80 call 4))) in
+    f.offset ∙ (ap (λ b. field_word 80 b * 2 ^ 32 + field_word 84 b) t ∙ (ap (λ x. x * 2 ^ 32 + field_word 84 (call_text call)) (at_80 call 0) ∙ ap (λ x. in_args 0 call * 2 ^ 32 + x) (at_80 call 4))) in
     record {
       xid = let s = word_small call.xid in subst (λ n. n < 2 ^ 32) (sym x) s;
       offset = let s = args_small call.offset (length call.content) (tail call) in subst (λ n. n < 2 ^ 64) (sym o) s;

@@ -15,3 +15,5 @@ pub mod Bridge
 pub mod Scripts
 pub mod CallParts
 pub mod CallLaw
+pub mod NameLaw
+pub mod GrammarLaw

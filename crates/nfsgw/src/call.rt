@@ -28,6 +28,25 @@ const DATA_PLACE: usize = 100;
 // The greatest number of bytes of a WRITE.
 const MAX_COUNT: u32 = 1_048_576;
 
+// The words of the head of a call (RFC 5531 sections 8.2, 9 and 11; RFC 1813 sections 2.2 and 3.3.7).
+const LAST_FRAGMENT: u32 = 0x8000_0000;
+
+const CALL: u32 = 0;
+
+const RPC_VERSION: u32 = 2;
+
+const NFS_PROGRAM: u32 = 100_003;
+
+const NFS_VERSION: u32 = 3;
+
+const WRITE: u32 = 7;
+
+const AUTH_NONE: u32 = 0;
+
+const HANDLE_LENGTH: u32 = 32;
+
+const UNSTABLE: u32 = 0;
+
 // The values of a call's fields.
 #[derive(Clone, Copy)]
 struct Found {
@@ -89,18 +108,19 @@ fn put_head(out: &mut Writer, xid: u32, count: u32) -> Result<(), NoMemory>
     requires { count ≤ 1048576 }
     ensures { OnOk result (out.new ≡ out.old ++ call_head xid count) }
 {
-    out.put_u32(0x8000_0000 + (96 + count + padding(count)))?;
+    out.put_u32(LAST_FRAGMENT + (96 + count + padding(count)))?;
     out.put_u32(xid)?;
+    out.put_u32(CALL)?;
+    out.put_u32(RPC_VERSION)?;
+    out.put_u32(NFS_PROGRAM)?;
+    out.put_u32(NFS_VERSION)?;
+    out.put_u32(WRITE)?;
+    // The credential and the verifier, without bodies.
+    out.put_u32(AUTH_NONE)?;
     out.put_u32(0)?;
-    out.put_u32(2)?;
-    out.put_u32(100_003)?;
-    out.put_u32(3)?;
-    out.put_u32(7)?;
+    out.put_u32(AUTH_NONE)?;
     out.put_u32(0)?;
-    out.put_u32(0)?;
-    out.put_u32(0)?;
-    out.put_u32(0)?;
-    out.put_u32(32)
+    out.put_u32(HANDLE_LENGTH)
 }
 
 #[tactic(auto, unfolding(crate::specs::Call::write_args))]
@@ -109,7 +129,7 @@ fn put_args(out: &mut Writer, offset: u64, count: u32) -> Result<(), NoMemory>
 {
     out.put_u64(offset)?;
     out.put_u32(count)?;
-    out.put_u32(0)?;
+    out.put_u32(UNSTABLE)?;
     out.put_u32(count)
 }
 
@@ -184,3 +204,54 @@ pub fn call_law()
     ensures read_as { (bytes : List ℕ) (call : WriteCallTerm) → call_of bytes ≡ Some call → IsCall bytes call }
     ensures spelled { (bytes : List ℕ) (call : WriteCallTerm) → IsCall bytes call → call_of bytes ≡ Some call }
 {}
+
+#[cfg(test)]
+mod tests {
+    use super::*;
+    use std::test::Fail;
+    use transcript::decode;
+
+    // WRITE of `abcde` at offset 0, with the xid 1.
+    const ROW: &[u8; 216] =
+        b"80000068000000010000000000000002000186a3000000030000000700000000000000000000000000000000000000200000000000000004000000000000000121e0f2975a84e78cec58787af28bde1400000000000000000000000500000000000000056162636465000000";
+
+    fn read(
+        alloc: Global,
+        hex: &[u8],
+        place: usize,
+        byte: u8,
+    ) -> Result<Option<WriteCall>, AllocError> {
+        let Some(mut message) = decode(alloc, hex)? else {
+            return Ok(None);
+        };
+        if place < message.len() {
+            message[place] = byte;
+        }
+        read_call(alloc, Bytes::from_vec(message)?)
+    }
+
+    #[test]
+    fn reads_a_call(rt: HostRuntime) -> Result<(), Fail> {
+        match read(rt.alloc(), ROW, 0, 0x80)? {
+            Some(call) => {
+                assert_eq!(rt; call.xid, 1);
+                assert_eq!(rt; call.offset, 0);
+                assert_eq!(rt; call.content.as_slice(), b"abcde".as_slice());
+            }
+            None => assert!(rt; false),
+        }
+        Ok(())
+    }
+
+    #[test]
+    fn refuses_other_bytes(rt: HostRuntime) -> Result<(), Fail> {
+        let alloc = rt.alloc();
+        let mut longer = Vec::from_slice(alloc, ROW)?;
+        longer.extend_from_slice(b"00")?;
+        assert!(rt; read(alloc, &longer, 0, 0x80)?.is_none());
+        // The padding, and UNSTABLE.
+        assert!(rt; read(alloc, ROW, 107, 1)?.is_none());
+        assert!(rt; read(alloc, ROW, 95, 1)?.is_none());
+        Ok(())
+    }
+}

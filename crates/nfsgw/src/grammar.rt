@@ -1,9 +1,10 @@
 // The lines of a transcript.
-ghost use Rattle.std.specs.Prelude.{◌≡◌, ◌==◌, ◌<◌, ◌≤◌, drop, length, position, IfOk, IfSome};
+ghost use Rattle.std.specs.Prelude.{◌≡◌, ◌↔◌, ◌==◌, ◌<◌, Bool, List, ℕ, Some, length, position, IfOk, IfSome};
 ghost use Rattle.std.specs.List.{list_all};
 ghost use Rattle.transcript.specs.Fields.{number_of, bytes_of};
 ghost use Rattle.nfsgw.specs.Call.{call_of};
-ghost use Rattle.nfsgw.specs.Grammar.{in_name, is_name as is_name_text, first_line, later_line as later_line_of, bytes_line, call_in, write_line, line_of as line_of_text};
+ghost use Rattle.nfsgw.specs.Grammar.{in_name, is_name as is_name_text, first_line, later_line as later_line_of, bytes_line, call_in, write_line, line_of as line_of_text, IsLine};
+ghost use Rattle.nfsgw.specs.declared.grammar.Line.{Line as LineTerm};
 
 use crate::call::{WriteCall, read_call};
 use bytes::Bytes;
@@ -123,5 +124,63 @@ pub fn line_of(alloc: Global, first: bool, text: &[u8]) -> Result<Option<Line>, 
         Ok(file_line(text))
     } else {
         later_line(alloc, text)
+    }
+}
+
+/// The texts of the grammar are read as their lines, and no other text is a line.
+pub fn grammar_law()
+    ensures { (first : Bool) (text : List ℕ) (line : LineTerm) → IsLine first text line ↔ (line_of_text first text ≡ Some line) }
+{}
+
+#[cfg(test)]
+mod tests {
+    use super::*;
+    use std::test::Fail;
+
+    #[test]
+    fn reads_the_lines(rt: HostRuntime) -> Result<(), Fail> {
+        let alloc = rt.alloc();
+        assert!(rt;
+            matches!(
+                line_of(alloc, true, b"file data")?,
+                Some(Line::Go(Event::MakeFile))
+            )
+        );
+        assert!(rt;
+            matches!(
+                line_of(alloc, false, b"turn 4")?,
+                Some(Line::Go(Event::Turn))
+            )
+        );
+        assert!(rt; matches!(line_of(alloc, false, b"end")?, Some(Line::End)));
+        // WRITE of `abcde` at offset 0, with the xid 1, in upper-case digits.
+        let write =
+            b"bytes 1 80000068000000010000000000000002000186A3000000030000000700000000000000000000000000000000000000200000000000000004000000000000000121E0F2975A84E78CEC58787AF28BDE1400000000000000000000000500000000000000056162636465000000";
+        match line_of(alloc, false, write)? {
+            Some(Line::Go(Event::Write { conn, call })) => {
+                assert_eq!(rt; conn, 1);
+                assert_eq!(rt; call.content.as_slice(), b"abcde".as_slice());
+            }
+            _ => assert!(rt; false),
+        }
+        Ok(())
+    }
+
+    #[test]
+    fn refuses_other_lines(rt: HostRuntime) -> Result<(), Fail> {
+        let alloc = rt.alloc();
+        assert!(rt; line_of(alloc, true, b"file a/b")?.is_none());
+        assert!(rt; line_of(alloc, true, b"file .")?.is_none());
+        assert!(rt; line_of(alloc, false, b"file data")?.is_none());
+        assert!(rt; line_of(alloc, false, b"turn 04")?.is_none());
+        assert!(rt; line_of(alloc, false, b"turn 5")?.is_none());
+        assert!(rt; line_of(alloc, false, b"end ")?.is_none());
+        let padded =
+            b"bytes 01 80000068000000010000000000000002000186a3000000030000000700000000000000000000000000000000000000200000000000000004000000000000000121e0f2975a84e78cec58787af28bde1400000000000000000000000500000000000000056162636465000000";
+        assert!(rt; line_of(alloc, false, padded)?.is_none());
+        let mut long_name = Vec::from_slice(alloc, b"file ")?;
+        long_name.extend_from_slice(&[b'a'; 256])?;
+        assert!(rt; line_of(alloc, true, &long_name)?.is_none());
+        Ok(())
     }
 }
