@@ -39,7 +39,7 @@ sized n bytes = take n bytes ++ replicate (n - length bytes) 0
 
 length-sized : (n : ℕ) (bytes : List ℕ) → length (sized n bytes) ≡ n
 unfolding sized
-length-sized n bytes = omega (arith, length-append (take n bytes) (replicate (n - length bytes) 0), length-take n bytes, length-replicate (n - length bytes) 0)
+length-sized n bytes = omega (arith, length-append (take n bytes) (replicate (n - length bytes) 0), length-take n bytes, length-replicate {A = ℕ} (n - length bytes) 0)
 
 sized-same : (n : ℕ) (bytes : List ℕ) → n ≡ length bytes → bytes ≡ sized n bytes
 unfolding sized

@@ -9,3 +9,4 @@ pub mod Packed
 pub mod Outside
 pub mod Found
 pub mod Progress
+pub mod Ways

@@ -1,0 +1,159 @@
+use crate::run::run_command;
+use crate::status::{Status, status_text};
+use append_store::{MemCluster, Planned};
+use gw_model::ObjectId;
+use gw_outside::{MemSink, MemSource};
+use std::alloc::{AllocError, Global};
+use std::test::Fail;
+
+const BODY: ObjectId = ObjectId::Body {
+    file: 4,
+    version: 1,
+};
+
+// A WRITE of `abcde` at 0 and one of `x` at 5, each with its xid 1; typed word by word from the RFCs.
+const FILE: &str = "file data\n";
+const FIRST: &str = "bytes 1 80000068000000010000000000000002000186a3000000030000000700000000000000000000000000000000000000200000000000000004000000000000000121e0f2975a84e78cec58787af28bde1400000000000000000000000500000000000000056162636465000000\n";
+const HOLE: &str = "bytes 1 80000064000000010000000000000002000186a3000000030000000700000000000000000000000000000000000000200000000000000004000000000000000121e0f2975a84e78cec58787af28bde14000000000000000500000001000000000000000178000000\n";
+
+#[derive(Clone, Copy)]
+struct Case {
+    word: &'static str,
+    failing_read: u64,
+    failing_write: u64,
+    failing_call: u64,
+    kept: u64,
+}
+
+const PLAIN: Case = Case {
+    word: "replay",
+    failing_read: 0,
+    failing_write: 0,
+    failing_call: 0,
+    kept: 0,
+};
+
+#[derive(Drop)]
+struct Outcome {
+    status: Status,
+    written: Vec<u8>,
+    content: Vec<u8>,
+}
+
+fn run(alloc: Global, case: &Case, lines: &[&str]) -> Result<Outcome, AllocError> {
+    let mut words = Vec::new(alloc);
+    words.push(String::from_str(alloc, case.word)?)?;
+    let mut transcript = Vec::new(alloc);
+    for line in lines {
+        transcript.extend_from_slice(line.as_bytes())?;
+    }
+    let mut failing_reads = Vec::new(alloc);
+    failing_reads.push(case.failing_read)?;
+    let mut failing_writes = Vec::new(alloc);
+    failing_writes.push(case.failing_write)?;
+    let mut planned = Vec::new(alloc);
+    planned.push(Planned {
+        object: Some(BODY),
+        call: case.failing_call,
+        kept: case.kept,
+    })?;
+    let mut source = MemSource::new(transcript, failing_reads);
+    let mut sink = MemSink::new(alloc, failing_writes);
+    let mut cluster = MemCluster::new(alloc, planned);
+    let status = run_command(alloc, &words, &mut source, &mut sink, &mut cluster);
+    let content = match cluster.content_of(BODY) {
+        Some(bytes) => Vec::from_slice(alloc, bytes)?,
+        None => Vec::new(alloc),
+    };
+    Ok(Outcome {
+        status,
+        written: Vec::from_slice(alloc, sink.bytes())?,
+        content,
+    })
+}
+
+const REPLY: &[u8] = b"reply 1 8000003400000001000000010000000000000000000000000000000000000000000000000000000000000005000000000000000000000001\ncontext 4 from 0\nwrite 1 0 5 put -\nended 4 end reach 5 stored 5 synced 0\n";
+
+#[test]
+fn one_in_order_write(rt: HostRuntime) -> Result<(), Fail> {
+    let outcome = run(rt.alloc(), &PLAIN, &[FILE, FIRST, "turn 4\n", "end\nrubbish"])?;
+    assert_eq!(rt; outcome.status, Status::Done);
+    assert_eq!(rt; outcome.written.as_slice(), REPLY);
+    assert_eq!(rt; outcome.content.as_slice(), b"abcde".as_slice());
+    Ok(())
+}
+
+#[test]
+fn hole_refused_at_first(rt: HostRuntime) -> Result<(), Fail> {
+    let outcome = run(rt.alloc(), &PLAIN, &[FILE, HOLE, "end\n"])?;
+    assert_eq!(rt; outcome.status, Status::Done);
+    assert_eq!(rt;
+        outcome.written.as_slice(),
+        b"reply 1 80000024000000010000000100000000000000000000000000000000000027140000000000000000\ncontext 4 from 0\nended 4 end reach 0 stored 0 synced 0\n".as_slice()
+    );
+    Ok(())
+}
+
+#[test]
+fn failed_append_keeps_three_bytes(rt: HostRuntime) -> Result<(), Fail> {
+    let case = Case {
+        failing_call: 3,
+        kept: 3,
+        ..PLAIN
+    };
+    let outcome = run(rt.alloc(), &case, &[FILE, FIRST, "turn 4\n", "end\n"])?;
+    assert_eq!(rt; outcome.status, Status::Done);
+    assert_eq!(rt;
+        outcome.written.as_slice(),
+        b"reply 1 80000024000000010000000100000000000000000000000000000000000000050000000000000000\ncontext 4 from 0\nwrite 1 0 5 lost -\nended 4 end reach 5 stored 3 synced 0\n".as_slice()
+    );
+    assert_eq!(rt; outcome.content.as_slice(), b"abc".as_slice());
+    Ok(())
+}
+
+#[test]
+fn a_body_that_is_not_given_fails_the_write(rt: HostRuntime) -> Result<(), Fail> {
+    let case = Case {
+        failing_call: 2,
+        ..PLAIN
+    };
+    let outcome = run(rt.alloc(), &case, &[FILE, FIRST, "turn 4\n", "end\n"])?;
+    assert_eq!(rt; outcome.status, Status::Done);
+    assert_eq!(rt;
+        outcome.written.as_slice(),
+        b"reply 1 80000024000000010000000100000000000000000000000000000000000000050000000000000000\n".as_slice()
+    );
+    Ok(())
+}
+
+#[test]
+fn each_fault_has_its_status(rt: HostRuntime) -> Result<(), Fail> {
+    let alloc = rt.alloc();
+    let created = run(alloc, &Case { failing_call: 1, ..PLAIN }, &[FILE, "end\n"])?;
+    assert_eq!(rt; created.status, Status::StoreFault);
+    assert_eq!(rt; created.written.len(), 0);
+    let read = run(alloc, &Case { failing_read: 1, ..PLAIN }, &[FILE, "end\n"])?;
+    assert_eq!(rt; read.status, Status::ReadFault);
+    let written = run(alloc, &Case { failing_write: 1, ..PLAIN }, &[FILE, HOLE, "end\n"])?;
+    assert_eq!(rt; written.status, Status::WriteFault);
+    let words = run(alloc, &Case { word: "--x", ..PLAIN }, &[FILE, "end\n"])?;
+    assert_eq!(rt; words.status, Status::Usage);
+    assert_eq!(rt; words.written.len(), 0);
+    Ok(())
+}
+
+#[test]
+fn the_first_bad_line_is_named(rt: HostRuntime) -> Result<(), Fail> {
+    let alloc = rt.alloc();
+    let empty = run(alloc, &PLAIN, &[])?;
+    assert_eq!(rt; empty.status, Status::BadLine(1));
+    let late = run(alloc, &PLAIN, &[FILE, FIRST, "turn 04\n", "end\n"])?;
+    assert_eq!(rt; late.status, Status::BadLine(3));
+    assert_eq!(rt;
+        late.written.as_slice(),
+        b"context 4 from 0\nwrite 1 0 5 open -\nended 4 end reach 5 stored 0 synced 0\n".as_slice()
+    );
+    let text = status_text(alloc, Status::BadLine(12))?;
+    assert_eq!(rt; text.as_str(), "nfsgw: line 12: not a transcript line");
+    Ok(())
+}
