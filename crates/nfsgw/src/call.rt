@@ -1,5 +1,5 @@
 // One WRITE call as exact bytes.
-ghost use Rattle.std.specs.Prelude.{◌≡◌, ◌+◌, ◌-◌, ◌*◌, ◌%◌, ◌^◌, ◌≤◌, ◌<◌, ◌++◌, length, take, drop, replicate, bytes_eq, List, ℕ, Some, IfOk, IfSome, OnOk};
+ghost use Rattle.std.specs.Prelude.{◌≡◌, ◌+◌, ◌*◌, ◌^◌, ◌≤◌, ◌++◌, length, replicate, bytes_eq, List, ℕ, Some, IfOk, IfSome, OnOk};
 ghost use Rattle.std.specs.Option.{option_map};
 ghost use Rattle.handles.specs.Handle.{handle_text};
 ghost use Rattle.xdr.specs.Items.{pad_len};

@@ -1,7 +1,7 @@
 // The lines of a transcript.
 ghost use Rattle.std.specs.Prelude.{◌≡◌, ◌↔◌, ◌==◌, ◌<◌, Bool, List, ℕ, Some, length, position, IfOk, IfSome};
 ghost use Rattle.std.specs.List.{list_all};
-ghost use Rattle.transcript.specs.Fields.{number_of, bytes_of};
+ghost use Rattle.transcript.specs.Fields.{bytes_of};
 ghost use Rattle.nfsgw.specs.Call.{call_of};
 ghost use Rattle.nfsgw.specs.Grammar.{in_name, is_name as is_name_text, first_line, later_line as later_line_of, bytes_line, call_in, write_line, line_of as line_of_text, IsLine};
 ghost use Rattle.nfsgw.specs.declared.grammar.Line.{Line as LineTerm};
