@@ -9,7 +9,7 @@ use Rattle.gw_outside.specs.Causes.{Rose}
 use Rattle.gw_model.specs.Ahead.{Called}
 use Rattle.transcript.specs.Script.{Stop, AtEnd, AtBad, AtOpen}
 use Rattle.transcript.specs.Writing.{IsPrefix, AppendsPrefix}
-use Rattle.nfsgw.specs.Headline.{Outside, Traffic, Moves, Fails, nothing, script, ahead_of, output, IsWhole, IsFront, IsShort, IsRun, Runs}
+use Rattle.nfsgw.specs.Headline.{Outside, Traffic, Moves, Fails, nothing, script, ahead_of, output, IsWhole, IsFront, IsShort, IsRun, IsComplete, Runs}
 use Rattle.nfsgw.specs.World.{Told}
 use Rattle.nfsgw.specs.Steps.{Context, Gone, gone_of, gone_at_end, onto, end_history}
 use Rattle.nfsgw.specs.Outside.{Fits, Opens, GivesBack, faults_at}
@@ -281,3 +281,25 @@ pub only_one : {X : Type 0} (xs : List X) (d : X) → length xs ≡ 1 → xs ≡
 only_one [] d h = absurd (omega arith)
 only_one (x ∷ []) d h = refl
 only_one (x ∷ y ∷ ys) d h = absurd (omega arith)
+
+-- a run in which nothing failed
+pub completes : (tells : Type 0) (result : Status) (before after : Outside) → Runs tells result before after → result ≢ status.Usage → (result ≡ status.ReadFault → ⊥) → (result ≡ status.WriteFault → ⊥) → (result ≡ status.StoreFault → ⊥)
+    → IsComplete before.left result
+completes tells result before after r usage read write store = go before.left after.left r.traffic.taken r.moves.reads result r.run usage read write store
+  where
+    go : (left left' : Option (List ℕ)) (taken : List ℕ) → Consumes left left' taken → (x : Status) → IsRun x r.body (taken ++ unwrap_or left' []) r.traffic → x ≢ status.Usage → (x ≡ status.ReadFault → ⊥) → (x ≡ status.WriteFault → ⊥) → (x ≡ status.StoreFault → ⊥) → IsComplete left x
+    go None left' taken c status.Done run u a b d = tt
+    go None left' taken c status.NoMemory run u a b d = tt
+    go None left' taken c (status.BadLine n) run u a b d = tt
+    go None left' taken c status.Usage run u a b d = u refl
+    go None left' taken c status.ReadFault run u a b d = a refl
+    go None left' taken c status.WriteFault run u a b d = b refl
+    go None left' taken c status.StoreFault run u a b d = d refl
+    go (Some xs) None taken c x run u a b d = absurd c
+    go (Some xs) (Some ys) taken c status.Done run u a b d = tt
+    go (Some xs) (Some ys) taken c status.NoMemory run u a b d = tt
+    go (Some xs) (Some ys) taken c (status.BadLine n) run u a b d = λ e. run.0 (ap (λ t. (script t).stop) (sym c) ∙ e)
+    go (Some xs) (Some ys) taken c status.Usage run u a b d = u refl
+    go (Some xs) (Some ys) taken c status.ReadFault run u a b d = a refl
+    go (Some xs) (Some ys) taken c status.WriteFault run u a b d = b refl
+    go (Some xs) (Some ys) taken c status.StoreFault run u a b d = d refl

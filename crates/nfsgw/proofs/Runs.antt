@@ -105,12 +105,16 @@ module _ (tells : Type 0) (state new : Option Context) (first : Bool) (k : ℕ) 
         later = s.later;
         fits = s.fits;
         opens = s.opens;
-        turn_is = (refl, refl, record {
-          gone = λ base fits more later. ap (λ x. gone_of base state x.events (ahead_of (s.calls ++ later))) (here_script more)
-              ∙ stepped base (after_line more).events (s.calls ++ later) (record { state = new; text = m.text; put = s.put; stopped = false; ahead = ahead_of later }) (s.next base later fits);
-          stop = λ more. ap (λ x. x.stop) (here_script more);
-          count = λ more. ap (λ x. length x.events + k) (here_script more) ∙ omega arith;
-        });
+        turn_is = (
+          refl,
+          refl,
+          record {
+            gone = λ base fits more later. ap (λ x. gone_of base state x.events (ahead_of (s.calls ++ later))) (here_script more)
+                ∙ stepped base (after_line more).events (s.calls ++ later) (record { state = new; text = m.text; put = s.put; stopped = false; ahead = ahead_of later }) (s.next base later fits);
+            stop = λ more. ap (λ x. x.stop) (here_script more);
+            count = λ more. ap (λ x. length x.events + k) (here_script more) ∙ omega arith;
+          },
+        );
       }
   event_turn turn.WriteFault left left' held held' body body' faults faults' r m =
       let s = m.step in
@@ -124,7 +128,7 @@ module _ (tells : Type 0) (state new : Option Context) (first : Bool) (k : ℕ) 
         turn_is = λ base fits later.
             let after = gone_of base new (after_line []).events (ahead_of later) in
             let whole = ap (λ x. gone_of base state x.events (ahead_of (s.calls ++ later))) here_cut
-                ∙ stepped base (after_line []).events (s.calls ++ later) (record { state = new; text = m.text; put = s.put; stopped = false; ahead = ahead_of later }) (s.next base later fits) in
+            ∙ stepped base (after_line []).events (s.calls ++ later) (record { state = new; text = m.text; put = s.put; stopped = false; ahead = ahead_of later }) (s.next base later fits) in
             ((w.2.0 ++ after.text, ap (λ x. x.text) whole ∙ ap (λ x. x ++ after.text) w.2.1 ∙ append_assoc w.0 w.2.0 after.text), (after.put, ap (λ x. x.put) whole));
       }
   event_turn turn.StoreFault left left' held held' body body' faults faults' r m =

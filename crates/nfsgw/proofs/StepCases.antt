@@ -73,7 +73,7 @@ module _ (tells : Type 0) (c : Context) where
       put = take kept h.content;
       next = λ base more fits. turn_is base (h ∷ hs) (Bad kept ∷ more) e ∙ ap (λ b. turn_if b h hs c (ahead_of (Bad kept ∷ more))) working
           ∙ (let least : min kept (length h.content) ≡ kept = omega (arith, few) in
-             ap (λ n. let s : Step = record { state = Some (record c { stored = c.stored + n; failed = true; held = hs }); text = lost_reply h; put = take kept h.content; stopped = false; ahead = ahead_of more } in s) least);
+          ap (λ n. let s : Step = record { state = Some (record c { stored = c.stored + n; failed = true; held = hs }); text = lost_reply h; put = take kept h.content; stopped = false; ahead = ahead_of more } in s) least);
       fits = λ base f. f;
       opens = λ told. refl;
       puts = puts;

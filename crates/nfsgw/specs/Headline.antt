@@ -1,5 +1,5 @@
 -- What a run writes and stores, by the bytes of the transcript and the outcomes of the store's calls.
-use Rattle.std.specs.Prelude.{◌≡◌, ◌≢◌, ℕ, ◌+◌, ◌-◌, ◌^◌, ◌≤◌, min, Bool, true, false, List, [], ◌∷◌, ◌++◌, map, length, codes, Option, unwrap_or}
+use Rattle.std.specs.Prelude.{◌≡◌, ◌≢◌, ℕ, ◌+◌, ◌-◌, ◌^◌, ◌≤◌, min, Bool, true, false, List, [], ◌∷◌, ◌++◌, map, length, codes, Option, Some, None, unwrap_or}
 use Rattle.std.specs.Io.KnownBytes.{Consumes, Appends}
 use Rattle.gw_model.specs.Ahead.{Ahead, Outcome, Done, Failed, Called, Good, Bad}
 use Rattle.transcript.specs.Script.{Script, script as script_by, AtEnd, AtOpen}
@@ -95,3 +95,16 @@ pub record Runs (tells : Type 0) (status : Status) (before after : Outside) : Ty
   pub body : List ℕ
   pub told : tells → before.body ≡ body
   pub run : IsRun status body (traffic.taken ++ unwrap_or after.left []) traffic
+
+-- how a run may end in which nothing failed, but for the words
+abbrev pub IsDoneOr : Type 0 → Status → Type 0
+IsDoneOr bad status.Done = Unit {0}
+IsDoneOr bad status.NoMemory = Unit {0}
+IsDoneOr bad (status.BadLine n) = bad
+IsDoneOr bad _ = ⊥
+
+-- Where nothing failed, a run is done, or memory was refused, or a line isn't in the grammar; the last only where the
+-- transcript, as far as the source tells it, has such a line.
+abbrev pub IsComplete : Option (List ℕ) → Status → Type 0
+IsComplete None result = IsDoneOr (Unit {0}) result
+IsComplete (Some transcript) result = IsDoneOr ((script transcript).stop ≢ AtEnd) result

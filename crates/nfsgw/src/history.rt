@@ -70,16 +70,14 @@ fn push_end(
 ) -> Result<(), AllocError>
     ensures { OnOk result (string_bytes out.new ≡ string_bytes out.old ++ ended_line 4 why.now reach stored synced) }
 {
-    write!(out, "ended {FILE} {why} reach {reach} stored {stored} synced {synced}\n")
+    write!(
+        out,
+        "ended {FILE} {why} reach {reach} stored {stored} synced {synced}\n"
+    )
 }
 
 /// The last line of a history at the end of a transcript.
-pub fn push_ended(
-    out: &mut String,
-    reach: u64,
-    stored: u64,
-    synced: u64,
-) -> Result<(), AllocError>
+pub fn push_ended(out: &mut String, reach: u64, stored: u64, synced: u64) -> Result<(), AllocError>
     ensures { OnOk result (string_bytes out.new ≡ string_bytes out.old ++ ended_line 4 (why_text Ended) reach stored synced) }
 {
     push_end(out, "end", reach, stored, synced)

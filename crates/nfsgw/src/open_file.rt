@@ -97,11 +97,7 @@ impl OpenFile {
 
     /// Does the first write that is held, and gives its reply's line. Both answers are made before the file is called.
     /// Takes memory.
-    pub fn turn<F: AppendFile>(
-        &mut self,
-        alloc: Global,
-        file: &mut F,
-    ) -> Result<String, AllocError>
+    pub fn turn<F: AppendFile>(&mut self, alloc: Global, file: &mut F) -> Result<String, AllocError>
         ensures ok { IfOk result (λ text. IsStep F.tells Turn (Some self.old) (Some self.new) (string_bytes text) false
             (F.content file.old) (F.content file.new) (F.count file.old) (F.count file.new)) }
         ensures err { OnErr result (Untouched F.tells (F.content file.old) (F.content file.new) (F.count file.old) (F.count file.new)) }

@@ -104,12 +104,7 @@ pub fn wrote(alloc: Global, conn: u32, xid: u32, count: u32) -> Result<String, A
 }
 
 /// The line of the reply to a write that is refused. Takes memory.
-pub fn refused(
-    alloc: Global,
-    conn: u32,
-    xid: u32,
-    refusal: Refusal,
-) -> Result<String, AllocError>
+pub fn refused(alloc: Global, conn: u32, xid: u32, refusal: Refusal) -> Result<String, AllocError>
     ensures { IfOk result (λ text. string_bytes text ≡ refusal_line conn xid (status_number refusal)) }
 {
     let reply = refused_bytes(alloc, xid, status_of(refusal)).map_err(|_| AllocError)?;

@@ -4,7 +4,8 @@ ghost use Rattle.std.specs.Option.{option_map};
 ghost use Rattle.gw_outside.specs.Causes.{Rose};
 ghost use Rattle.append_store.specs.State.{IsAway, bytes_of};
 ghost use Rattle.transcript.specs.Script.{max_lines};
-ghost use Rattle.nfsgw.specs.Headline.{IsReplay, Runs};
+ghost use Rattle.gw_model.specs.declared.object.ObjectId.{ObjectId};
+ghost use Rattle.nfsgw.specs.Headline.{IsReplay, IsComplete, Runs};
 ghost use Rattle.nfsgw.specs.Steps.{end_history};
 ghost use Rattle.nfsgw.specs.Outside.{body_id, body_at, faults_at, Safe, Home, IsReady, IsSmall, GivesBack};
 ghost use Rattle.nfsgw.specs.Progress.{Stands, Turns, Ends, IsEventTurn, IsWritten, status_by};
@@ -65,6 +66,7 @@ fn one_event<K: Sink, C: Cluster>(
         (body_at (C.at cluster.old body_id) (option_map (λ b. C.File.content b) body.old)) (body_at (C.at cluster.new body_id) (option_map (λ b. C.File.content b) body.new))
         (faults_at (C.count cluster.old) (option_map (λ b. C.File.count b) body.old)) (faults_at (C.count cluster.new) (option_map (λ b. C.File.count b) body.new)) }
     ensures both_after { result ≡ Turn.More → is_some body.new ≡ is_some world.new }
+    ensures others { C.File.tells → (q : ObjectId) → q ≢ body_id → C.at cluster.new q ≡ C.at cluster.old q }
     ensures safe { Safe C.File.tells (C.at cluster.new body_id) (option_map (λ b. C.File.mark b) body.new) }
     ensures home { result ≡ Turn.More → Home C.File.tells (C.at cluster.new body_id) (option_map (λ b. C.File.mark b) body.new) }
     ensures later { K.count sink.old ≤ K.count sink.new }
@@ -100,6 +102,7 @@ fn one_line<S: Source, K: Sink, C: Cluster>(
         (record { left = S.left source.old; held = K.held sink.old; body = body_at (C.at cluster.old body_id) (option_map (λ b. C.File.content b) body.old); faults = faults_at (C.count cluster.old) (option_map (λ b. C.File.count b) body.old) })
         (record { left = S.left source.new; held = K.held sink.new; body = body_at (C.at cluster.new body_id) (option_map (λ b. C.File.content b) body.new); faults = faults_at (C.count cluster.new) (option_map (λ b. C.File.count b) body.new) }) }
     ensures both_after { result ≡ Turn.More → is_some body.new ≡ is_some world.new }
+    ensures others { C.File.tells → (q : ObjectId) → q ≢ body_id → C.at cluster.new q ≡ C.at cluster.old q }
     ensures home { result ≡ Turn.More → Home C.File.tells (C.at cluster.new body_id) (option_map (λ b. C.File.mark b) body.new) }
     ensures safe { Safe C.File.tells (C.at cluster.new body_id) (option_map (λ b. C.File.mark b) body.new) }
     ensures source_later { S.count source.old ≤ S.count source.new }
@@ -138,6 +141,7 @@ fn all_lines<S: Source, K: Sink, C: Cluster>(
         (record { left = S.left source.old; held = K.held sink.old; body = bytes_of (C.at cluster.old body_id); faults = C.count cluster.old })
         (record { left = S.left source.new; held = K.held sink.new; body = body_at (C.at cluster.new body_id) (option_map (λ b. C.File.content b) body.new); faults = faults_at (C.count cluster.new) (option_map (λ b. C.File.count b) body.new) }) }
     ensures few { result.lines ≤ max_lines }
+    ensures others { C.File.tells → (q : ObjectId) → q ≢ body_id → C.at cluster.new q ≡ C.at cluster.old q }
     ensures safe { Safe C.File.tells (C.at cluster.new body_id) (option_map (λ b. C.File.mark b) body.new) }
     ensures source_later { S.count source.old ≤ S.count source.new }
     ensures sink_later { K.count sink.old ≤ K.count sink.new }
@@ -168,6 +172,7 @@ fn give_back<C: Cluster>(cluster: &mut C, body: Option<C::File>)
     requires safe { Safe C.File.tells (C.at cluster.old body_id) (option_map (λ b. C.File.mark b) body) }
     ensures bytes { C.File.tells → bytes_of (C.at cluster.new body_id) ≡ body_at (C.at cluster.old body_id) (option_map (λ b. C.File.content b) body) }
     ensures home { C.File.tells → IsAway (C.at cluster.new body_id) → ⊥ }
+    ensures others { C.File.tells → (q : ObjectId) → q ≢ body_id → C.at cluster.new q ≡ C.at cluster.old q }
     ensures count { GivesBack (C.count cluster.old) (option_map (λ b. C.File.count b) body) (C.count cluster.new) }
 {
     if let Some(file) = body {
@@ -220,6 +225,7 @@ fn replay<S: Source, K: Sink, C: Cluster>(
     ensures read_cause { result ≡ Status.ReadFault → Rose (S.count source.old) (S.count source.new) }
     ensures write_cause { result ≡ Status.WriteFault → Rose (K.count sink.old) (K.count sink.new) }
     ensures store_cause { result ≡ Status.StoreFault → Rose (C.count cluster.old) (C.count cluster.new) }
+    ensures others { C.File.tells → (q : ObjectId) → q ≢ body_id → C.at cluster.new q ≡ C.at cluster.old q }
     ensures not_usage { result ≢ Status.Usage }
 {
     let mut world = World::new();
@@ -265,12 +271,18 @@ pub fn run_command<S: Source, K: Sink, C: Cluster>(
         (record { left = S.left source.new; held = K.held sink.new; body = bytes_of (C.at cluster.new body_id); faults = C.count cluster.new }) }
     // The body isn't out afterwards.
     ensures home { C.File.tells → IsAway (C.at cluster.new body_id) → ⊥ }
+    // No other object is changed.
+    ensures others { C.File.tells → (q : ObjectId) → q ≢ body_id → C.at cluster.new q ≡ C.at cluster.old q }
     // The words are refused exactly where they are no command.
     ensures usage { (result ≡ Status.Usage) ↔ ¬ (IsReplay (map string_bytes words.now.items)) }
     // A fault is answered only where that object's count rose.
     ensures read_cause { result ≡ Status.ReadFault → Rose (S.count source.old) (S.count source.new) }
     ensures write_cause { result ≡ Status.WriteFault → Rose (K.count sink.old) (K.count sink.new) }
     ensures store_cause { result ≡ Status.StoreFault → Rose (C.count cluster.old) (C.count cluster.new) }
+    // Where nothing fails, a transcript that is whole and in the grammar is done, but for want of memory.
+    ensures complete { IsReplay (map string_bytes words.now.items)
+        → (Rose (S.count source.old) (S.count source.new) → ⊥) → (Rose (K.count sink.old) (K.count sink.new) → ⊥) → (Rose (C.count cluster.old) (C.count cluster.new) → ⊥)
+        → IsComplete (S.left source.old) result }
 {
     if is_replay(words) {
         replay(alloc, source, sink, cluster)

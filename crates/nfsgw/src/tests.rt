@@ -13,8 +13,12 @@ const BODY: ObjectId = ObjectId::Body {
 
 // A WRITE of `abcde` at 0 and one of `x` at 5, each with its xid 1; typed word by word from the RFCs.
 const FILE: &str = "file data\n";
-const FIRST: &str = "bytes 1 80000068000000010000000000000002000186a3000000030000000700000000000000000000000000000000000000200000000000000004000000000000000121e0f2975a84e78cec58787af28bde1400000000000000000000000500000000000000056162636465000000\n";
-const HOLE: &str = "bytes 1 80000064000000010000000000000002000186a3000000030000000700000000000000000000000000000000000000200000000000000004000000000000000121e0f2975a84e78cec58787af28bde14000000000000000500000001000000000000000178000000\n";
+
+const FIRST: &str =
+    "bytes 1 80000068000000010000000000000002000186a3000000030000000700000000000000000000000000000000000000200000000000000004000000000000000121e0f2975a84e78cec58787af28bde1400000000000000000000000500000000000000056162636465000000\n";
+
+const HOLE: &str =
+    "bytes 1 80000064000000010000000000000002000186a3000000030000000700000000000000000000000000000000000000200000000000000004000000000000000121e0f2975a84e78cec58787af28bde14000000000000000500000001000000000000000178000000\n";
 
 #[derive(Clone, Copy)]
 struct Case {
@@ -72,11 +76,16 @@ fn run(alloc: Global, case: &Case, lines: &[&str]) -> Result<Outcome, AllocError
     })
 }
 
-const REPLY: &[u8] = b"reply 1 8000003400000001000000010000000000000000000000000000000000000000000000000000000000000005000000000000000000000001\ncontext 4 from 0\nwrite 1 0 5 put -\nended 4 end reach 5 stored 5 synced 0\n";
+const REPLY: &[u8] =
+    b"reply 1 8000003400000001000000010000000000000000000000000000000000000000000000000000000000000005000000000000000000000001\ncontext 4 from 0\nwrite 1 0 5 put -\nended 4 end reach 5 stored 5 synced 0\n";
 
 #[test]
 fn one_in_order_write(rt: HostRuntime) -> Result<(), Fail> {
-    let outcome = run(rt.alloc(), &PLAIN, &[FILE, FIRST, "turn 4\n", "end\nrubbish"])?;
+    let outcome = run(
+        rt.alloc(),
+        &PLAIN,
+        &[FILE, FIRST, "turn 4\n", "end\nrubbish"],
+    )?;
     assert_eq!(rt; outcome.status, Status::Done);
     assert_eq!(rt; outcome.written.as_slice(), REPLY);
     assert_eq!(rt; outcome.content.as_slice(), b"abcde".as_slice());
@@ -129,14 +138,42 @@ fn a_body_that_is_not_given_fails_the_write(rt: HostRuntime) -> Result<(), Fail>
 #[test]
 fn each_fault_has_its_status(rt: HostRuntime) -> Result<(), Fail> {
     let alloc = rt.alloc();
-    let created = run(alloc, &Case { failing_call: 1, ..PLAIN }, &[FILE, "end\n"])?;
+    let created = run(
+        alloc,
+        &Case {
+            failing_call: 1,
+            ..PLAIN
+        },
+        &[FILE, "end\n"],
+    )?;
     assert_eq!(rt; created.status, Status::StoreFault);
     assert_eq!(rt; created.written.len(), 0);
-    let read = run(alloc, &Case { failing_read: 1, ..PLAIN }, &[FILE, "end\n"])?;
+    let read = run(
+        alloc,
+        &Case {
+            failing_read: 1,
+            ..PLAIN
+        },
+        &[FILE, "end\n"],
+    )?;
     assert_eq!(rt; read.status, Status::ReadFault);
-    let written = run(alloc, &Case { failing_write: 1, ..PLAIN }, &[FILE, HOLE, "end\n"])?;
+    let written = run(
+        alloc,
+        &Case {
+            failing_write: 1,
+            ..PLAIN
+        },
+        &[FILE, HOLE, "end\n"],
+    )?;
     assert_eq!(rt; written.status, Status::WriteFault);
-    let words = run(alloc, &Case { word: "--x", ..PLAIN }, &[FILE, "end\n"])?;
+    let words = run(
+        alloc,
+        &Case {
+            word: "--x",
+            ..PLAIN
+        },
+        &[FILE, "end\n"],
+    )?;
     assert_eq!(rt; words.status, Status::Usage);
     assert_eq!(rt; words.written.len(), 0);
     Ok(())

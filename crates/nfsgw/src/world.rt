@@ -2,6 +2,7 @@
 ghost use Rattle.std.specs.Prelude.{◌≡◌, ◌≢◌, ◌≤◌, ◌<◌, ◌+◌, ◌^◌, ℕ, [], IfOk, IfSome, OnOk, OnErr, OnSome, IfNone, None, Some, is_some, length, string_bytes, false, true};
 ghost use Rattle.std.specs.Option.{option_map};
 ghost use Rattle.gw_outside.specs.Causes.{Rose};
+ghost use Rattle.gw_model.specs.declared.object.ObjectId.{ObjectId};
 ghost use Rattle.append_store.specs.State.{ObjectState, bytes_of};
 ghost use Rattle.std.specs.declared.option.Option.{Option};
 ghost use Rattle.nfsgw.specs.Steps.{Context, fresh, end_history};
@@ -78,11 +79,7 @@ fn place(
 }
 
 /// Takes the body from the store; `None` where the store failed.
-fn open<C: Cluster>(
-    alloc: Global,
-    cluster: &mut C,
-    body: &mut Option<C::File>,
-) -> Option<OpenFile>
+fn open<C: Cluster>(alloc: Global, cluster: &mut C, body: &mut Option<C::File>) -> Option<OpenFile>
     requires closed { body.old ≡ None }
     requires home { Home C.File.tells (C.at cluster.old body_id) None }
     ensures fresh { IfSome result (λ f. f ≡ fresh f.base) }
@@ -91,6 +88,7 @@ fn open<C: Cluster>(
     ensures both { is_some body.new ≡ is_some result }
     ensures home_after { Home C.File.tells (C.at cluster.new body_id) (option_map (λ b. C.File.mark b) body.new) }
     ensures later { C.count cluster.old ≤ faults_at (C.count cluster.new) (option_map (λ b. C.File.count b) body.new) }
+    ensures others { C.File.tells → (q : ObjectId) → q ≢ body_id → C.at cluster.new q ≡ C.at cluster.old q }
     ensures cause { IfNone result (Rose (C.count cluster.old) (faults_at (C.count cluster.new) (option_map (λ b. C.File.count b) body.new))) }
 {
     match cluster.take_file(BODY) {
@@ -109,6 +107,7 @@ fn make_file<C: Cluster>(alloc: Global, cluster: &mut C) -> Stepped
     ensures step { (s : Option Context) → IsStepped C.File.tells result MakeFileEvent s s (bytes_of (C.at cluster.old body_id)) (bytes_of (C.at cluster.new body_id)) (C.count cluster.old) (C.count cluster.new) }
     ensures safe_after { Safe C.File.tells (C.at cluster.new body_id) None }
     ensures home { IsText result → Home C.File.tells (C.at cluster.new body_id) None }
+    ensures others { C.File.tells → (q : ObjectId) → q ≢ body_id → C.at cluster.new q ≡ C.at cluster.old q }
     ensures cause { result ≡ Stepped.StoreFault → Rose (C.count cluster.old) (C.count cluster.new) }
 {
     match cluster.create(BODY) {
@@ -147,6 +146,7 @@ impl World {
             (bytes_of (C.at cluster.old body_id)) (body_at (C.at cluster.new body_id) (option_map (λ b. C.File.content b) body.new))
             (C.count cluster.old) (faults_at (C.count cluster.new) (option_map (λ b. C.File.count b) body.new))) }
         ensures both { OnOk result (is_some body.new ≡ is_some self.new) }
+        ensures others { C.File.tells → (q : ObjectId) → q ≢ body_id → C.at cluster.new q ≡ C.at cluster.old q }
         ensures home_after { Home C.File.tells (C.at cluster.new body_id) (option_map (λ b. C.File.mark b) body.new) }
     {
         let lost = refused(alloc, conn, call.xid, Refusal::Io)?;
@@ -179,6 +179,7 @@ impl World {
             (body_at (C.at cluster.old body_id) (option_map (λ b. C.File.content b) body.old)) (body_at (C.at cluster.new body_id) (option_map (λ b. C.File.content b) body.new))
             (faults_at (C.count cluster.old) (option_map (λ b. C.File.count b) body.old)) (faults_at (C.count cluster.new) (option_map (λ b. C.File.count b) body.new))) }
         ensures both_after { OnOk result (is_some body.new ≡ is_some self.new) }
+        ensures others { C.File.tells → (q : ObjectId) → q ≢ body_id → C.at cluster.new q ≡ C.at cluster.old q }
         ensures home_after { Home C.File.tells (C.at cluster.new body_id) (option_map (λ b. C.File.mark b) body.new) }
     {
         if end_of(call.offset, call.content.len() as u32).is_none() {
@@ -234,6 +235,7 @@ impl World {
             (body_at (C.at cluster.old body_id) (option_map (λ b. C.File.content b) body.old)) (body_at (C.at cluster.new body_id) (option_map (λ b. C.File.content b) body.new))
             (faults_at (C.count cluster.old) (option_map (λ b. C.File.count b) body.old)) (faults_at (C.count cluster.new) (option_map (λ b. C.File.count b) body.new)) }
         ensures both_after { IsText result → is_some body.new ≡ is_some self.new }
+        ensures others { C.File.tells → (q : ObjectId) → q ≢ body_id → C.at cluster.new q ≡ C.at cluster.old q }
         ensures safe { Safe C.File.tells (C.at cluster.new body_id) (option_map (λ b. C.File.mark b) body.new) }
         ensures home { IsText result → Home C.File.tells (C.at cluster.new body_id) (option_map (λ b. C.File.mark b) body.new) }
         ensures cause { result ≡ Stepped.StoreFault → Rose (faults_at (C.count cluster.old) (option_map (λ b. C.File.count b) body.old)) (faults_at (C.count cluster.new) (option_map (λ b. C.File.count b) body.new)) }

@@ -1,4 +1,4 @@
-use Rattle.std.proofs.Common.{◌≡◌, ◌<◌, ◌≤◌, ◌+◌, false, refl, arith}
+use Rattle.std.proofs.Common.{◌≡◌, ◌<◌, ◌≤◌, ◌+◌, ◌∙◌, false, refl, arith}
 use Rattle.std.specs.Prelude.{◌==◌}
 use Rattle.std.proofs.lemmas.Bool.Decides.{nat_tests}
 use Rattle.append_store.specs.State.{bytes_of}
@@ -12,6 +12,7 @@ loop-before-init g c = record {
   reached = rw (c.requires.fresh, c.requires.no_body, c.new-lines.ensures) (reached_start g.C.File.AppendFile.tells (record { left = g.S.Source.left c.args.source.now; held = g.K.Sink.held c.args.sink.now; body = bytes_of (g.C.Cluster.at c.args.cluster.now body_id); faults = g.C.Cluster.count c.args.cluster.now }));
   both = rw (c.requires.fresh, c.requires.no_body) refl;
   stands = rw c.requires.no_body (refl, c.requires.home);
+  others = λ told q apart. refl;
   source_later = omega arith;
   sink_later = omega arith;
 }
@@ -25,6 +26,7 @@ returns-in_default g c =
     record {
       moves = reached_end g.C.File.AppendFile.tells c.one_line.result _ _ _ _ _ c.in_default.not-More h inv.reached e.moves;
       few = omega arith;
+      others = λ told q apart. e.others told q apart ∙ inv.others told q apart;
       safe = e.safe;
       source_later = omega arith;
       sink_later = omega arith;
@@ -42,6 +44,7 @@ loop-before-preserved g c =
       reached = rw no (reached_more g.C.File.AppendFile.tells _ _ _ _ _ inv.reached e.moves);
       both = e.both_after refl;
       stands = rw no (e.home refl);
+      others = λ told q apart. e.others told q apart ∙ inv.others told q apart;
       source_later = omega arith;
       sink_later = omega arith;
     }

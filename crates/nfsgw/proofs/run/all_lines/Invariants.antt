@@ -1,6 +1,7 @@
-use Rattle.std.proofs.Common.{◌≡◌, ◌≤◌}
+use Rattle.std.proofs.Common.{◌≡◌, ◌≢◌, ◌≤◌}
 use Rattle.std.specs.Prelude.{◌==◌, is_some}
 use Rattle.std.specs.Option.{option_map}
+use Rattle.gw_model.specs.declared.object.ObjectId.{ObjectId}
 use Rattle.append_store.specs.State.{bytes_of}
 use Rattle.nfsgw.specs.Outside.{body_id, body_at, faults_at}
 use Rattle.nfsgw.specs.Progress.{Reached, Stands}
@@ -13,6 +14,7 @@ invariant-loop-before g l = record {
       (record { left = g.S.Source.left l.source; held = g.K.Sink.held l.sink; body = body_at (g.C.Cluster.at l.cluster body_id) (option_map (λ b. g.C.File.AppendFile.content b) l.body); faults = faults_at (g.C.Cluster.count l.cluster) (option_map (λ b. g.C.File.AppendFile.count b) l.body) });
   both : is_some l.body ≡ is_some l.world;
   stands : Stands g.C.File.AppendFile.tells (l.before == 0) (g.C.Cluster.at l.cluster body_id) (option_map (λ b. g.C.File.AppendFile.mark b) l.body);
+  others : g.C.File.AppendFile.tells → (q : ObjectId) → q ≢ body_id → g.C.Cluster.at l.cluster q ≡ g.C.Cluster.at l.fn.cluster q;
   source_later : g.S.Source.count l.fn.source ≤ g.S.Source.count l.source;
   sink_later : g.K.Sink.count l.fn.sink ≤ g.K.Sink.count l.sink;
 }

@@ -10,10 +10,10 @@ returns-in-StoreFault-clause-run g c =
     let ending = c.all_lines-ending.result in
     let e = c.all_lines-ending.ensures in
     rw c.status_of.ensures (runs_cut g.C.File.AppendFile.tells ending.turn ending.lines c.all_lines-ending.new.world
-      (g.S.Source.left c.args.source.now) (g.S.Source.left c.all_lines-ending.new.source) (g.K.Sink.held c.args.sink.now) (g.K.Sink.held c.all_lines-ending.new.sink)
-      (bytes_of (g.C.Cluster.at c.args.cluster.now body_id)) (body_at (g.C.Cluster.at c.all_lines-ending.new.cluster body_id) (option_map (λ b. g.C.File.AppendFile.content b) c.all_lines-ending.new.body)) (bytes_of (g.C.Cluster.at c.give_back.new.cluster body_id))
-      (g.C.Cluster.count c.args.cluster.now) (g.C.Cluster.count c.all_lines-ending.new.cluster) (option_map (λ b. g.C.File.AppendFile.count b) c.all_lines-ending.new.body) (g.C.Cluster.count c.give_back.new.cluster)
-      e.moves c.give_back.ensures.count c.give_back.ensures.bytes c.in-StoreFault.is)
+    (g.S.Source.left c.args.source.now) (g.S.Source.left c.all_lines-ending.new.source) (g.K.Sink.held c.args.sink.now) (g.K.Sink.held c.all_lines-ending.new.sink)
+    (bytes_of (g.C.Cluster.at c.args.cluster.now body_id)) (body_at (g.C.Cluster.at c.all_lines-ending.new.cluster body_id) (option_map (λ b. g.C.File.AppendFile.content b) c.all_lines-ending.new.body)) (bytes_of (g.C.Cluster.at c.give_back.new.cluster body_id))
+    (g.C.Cluster.count c.args.cluster.now) (g.C.Cluster.count c.all_lines-ending.new.cluster) (option_map (λ b. g.C.File.AppendFile.count b) c.all_lines-ending.new.body) (g.C.Cluster.count c.give_back.new.cluster)
+    e.moves c.give_back.ensures.count c.give_back.ensures.bytes c.in-StoreFault.is)
 
 pub returns-in-Whole : goal.returns-in-Whole
 returns-in-Whole g c =
@@ -22,14 +22,15 @@ returns-in-Whole g c =
     let s = c.status_of-in-Whole.ensures in
     record {
       run = rw s (runs_whole g.C.File.AppendFile.tells ending.turn ending.lines c.all_lines-ending.new.world
-      (g.S.Source.left c.args.source.now) (g.S.Source.left c.all_lines-ending.new.source) (g.K.Sink.held c.args.sink.now) (g.K.Sink.held c.all_lines-ending.new.sink)
-      (bytes_of (g.C.Cluster.at c.args.cluster.now body_id)) (body_at (g.C.Cluster.at c.all_lines-ending.new.cluster body_id) (option_map (λ b. g.C.File.AppendFile.content b) c.all_lines-ending.new.body)) (bytes_of (g.C.Cluster.at c.give_back.new.cluster body_id))
-      (g.C.Cluster.count c.args.cluster.now) (g.C.Cluster.count c.all_lines-ending.new.cluster) (option_map (λ b. g.C.File.AppendFile.count b) c.all_lines-ending.new.body) (g.C.Cluster.count c.give_back.new.cluster)
-      e.moves c.give_back.ensures.count c.give_back.ensures.bytes (g.K.Sink.held c.write_history.new.sink) c.in_default.not-StoreFault c.in_default.not-WriteFault c.in_default.not-NoMemory c.in-Whole.ensures.text);
+          (g.S.Source.left c.args.source.now) (g.S.Source.left c.all_lines-ending.new.source) (g.K.Sink.held c.args.sink.now) (g.K.Sink.held c.all_lines-ending.new.sink)
+          (bytes_of (g.C.Cluster.at c.args.cluster.now body_id)) (body_at (g.C.Cluster.at c.all_lines-ending.new.cluster body_id) (option_map (λ b. g.C.File.AppendFile.content b) c.all_lines-ending.new.body)) (bytes_of (g.C.Cluster.at c.give_back.new.cluster body_id))
+          (g.C.Cluster.count c.args.cluster.now) (g.C.Cluster.count c.all_lines-ending.new.cluster) (option_map (λ b. g.C.File.AppendFile.count b) c.all_lines-ending.new.body) (g.C.Cluster.count c.give_back.new.cluster)
+          e.moves c.give_back.ensures.count c.give_back.ensures.bytes (g.K.Sink.held c.write_history.new.sink) c.in_default.not-StoreFault c.in_default.not-WriteFault c.in_default.not-NoMemory c.in-Whole.ensures.text);
       home = c.give_back.ensures.home;
       read_cause = λ q. e.read_cause (status_read ending.turn ending.lines (sym s ∙ q));
       write_cause = λ q. absurd (c.in_default.not-WriteFault (status_write ending.turn ending.lines (sym s ∙ q)));
       store_cause = λ q. absurd (c.in_default.not-StoreFault (status_store ending.turn ending.lines (sym s ∙ q)));
+      others = λ told q apart. c.give_back.ensures.others told q apart ∙ e.others told q apart;
       not_usage = λ q. status_usage ending.turn ending.lines (sym s ∙ q);
     }
 
@@ -41,14 +42,15 @@ returns-in-WriteFault g c =
     let later = e.sink_later in
     record {
       run = runs_short g.C.File.AppendFile.tells ending.turn ending.lines c.all_lines-ending.new.world
-      (g.S.Source.left c.args.source.now) (g.S.Source.left c.all_lines-ending.new.source) (g.K.Sink.held c.args.sink.now) (g.K.Sink.held c.all_lines-ending.new.sink)
-      (bytes_of (g.C.Cluster.at c.args.cluster.now body_id)) (body_at (g.C.Cluster.at c.all_lines-ending.new.cluster body_id) (option_map (λ b. g.C.File.AppendFile.content b) c.all_lines-ending.new.body)) (bytes_of (g.C.Cluster.at c.give_back.new.cluster body_id))
-      (g.C.Cluster.count c.args.cluster.now) (g.C.Cluster.count c.all_lines-ending.new.cluster) (option_map (λ b. g.C.File.AppendFile.count b) c.all_lines-ending.new.body) (g.C.Cluster.count c.give_back.new.cluster)
-      e.moves c.give_back.ensures.count c.give_back.ensures.bytes (g.K.Sink.held c.write_history.new.sink) c.in_default.not-StoreFault c.in_default.not-WriteFault c.in_default.not-NoMemory c.in-WriteFault.ensures.text;
+          (g.S.Source.left c.args.source.now) (g.S.Source.left c.all_lines-ending.new.source) (g.K.Sink.held c.args.sink.now) (g.K.Sink.held c.all_lines-ending.new.sink)
+          (bytes_of (g.C.Cluster.at c.args.cluster.now body_id)) (body_at (g.C.Cluster.at c.all_lines-ending.new.cluster body_id) (option_map (λ b. g.C.File.AppendFile.content b) c.all_lines-ending.new.body)) (bytes_of (g.C.Cluster.at c.give_back.new.cluster body_id))
+          (g.C.Cluster.count c.args.cluster.now) (g.C.Cluster.count c.all_lines-ending.new.cluster) (option_map (λ b. g.C.File.AppendFile.count b) c.all_lines-ending.new.body) (g.C.Cluster.count c.give_back.new.cluster)
+          e.moves c.give_back.ensures.count c.give_back.ensures.bytes (g.K.Sink.held c.write_history.new.sink) c.in_default.not-StoreFault c.in_default.not-WriteFault c.in_default.not-NoMemory c.in-WriteFault.ensures.text;
       home = c.give_back.ensures.home;
       read_cause = λ q. cc;
       write_cause = λ q. omega (arith, rose, later);
       store_cause = λ q. cc;
+      others = λ told q apart. c.give_back.ensures.others told q apart ∙ e.others told q apart;
       not_usage = λ q. cc;
     }
 
@@ -58,13 +60,14 @@ returns g c =
     let e = c.all_lines-ending.ensures in
     record {
       run = runs_unwritten g.C.File.AppendFile.tells ending.turn ending.lines c.all_lines-ending.new.world
-      (g.S.Source.left c.args.source.now) (g.S.Source.left c.all_lines-ending.new.source) (g.K.Sink.held c.args.sink.now) (g.K.Sink.held c.all_lines-ending.new.sink)
-      (bytes_of (g.C.Cluster.at c.args.cluster.now body_id)) (body_at (g.C.Cluster.at c.all_lines-ending.new.cluster body_id) (option_map (λ b. g.C.File.AppendFile.content b) c.all_lines-ending.new.body)) (bytes_of (g.C.Cluster.at c.give_back.new.cluster body_id))
-      (g.C.Cluster.count c.args.cluster.now) (g.C.Cluster.count c.all_lines-ending.new.cluster) (option_map (λ b. g.C.File.AppendFile.count b) c.all_lines-ending.new.body) (g.C.Cluster.count c.give_back.new.cluster)
-      e.moves c.give_back.ensures.count c.give_back.ensures.bytes (g.K.Sink.held c.write_history.new.sink) c.in_default.not-StoreFault c.in_default.not-WriteFault c.in_default.not-NoMemory c.in-NoMemory.ensures.text;
+          (g.S.Source.left c.args.source.now) (g.S.Source.left c.all_lines-ending.new.source) (g.K.Sink.held c.args.sink.now) (g.K.Sink.held c.all_lines-ending.new.sink)
+          (bytes_of (g.C.Cluster.at c.args.cluster.now body_id)) (body_at (g.C.Cluster.at c.all_lines-ending.new.cluster body_id) (option_map (λ b. g.C.File.AppendFile.content b) c.all_lines-ending.new.body)) (bytes_of (g.C.Cluster.at c.give_back.new.cluster body_id))
+          (g.C.Cluster.count c.args.cluster.now) (g.C.Cluster.count c.all_lines-ending.new.cluster) (option_map (λ b. g.C.File.AppendFile.count b) c.all_lines-ending.new.body) (g.C.Cluster.count c.give_back.new.cluster)
+          e.moves c.give_back.ensures.count c.give_back.ensures.bytes (g.K.Sink.held c.write_history.new.sink) c.in_default.not-StoreFault c.in_default.not-WriteFault c.in_default.not-NoMemory c.in-NoMemory.ensures.text;
       home = c.give_back.ensures.home;
       read_cause = λ q. cc;
       write_cause = λ q. cc;
       store_cause = λ q. cc;
+      others = λ told q apart. c.give_back.ensures.others told q apart ∙ e.others told q apart;
       not_usage = λ q. cc;
     }

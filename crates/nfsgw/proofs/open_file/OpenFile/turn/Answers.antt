@@ -20,8 +20,8 @@ returns-in-Ok-clause-ok g c =
     let puts = rw (c.as_slice.ensures, take-length) at c.in-Ok.ensures.content in
     rw (c.in_ok-good.ensures, c.len.ensures.value, c.len-in-Ok.ensures.value, ← c.self.view_is)
     (turn_good g.F.AppendFile.tells _ c.in-Some.write c.pop_front.new.self.items c.in-Some.ensures.items
-      (g.F.AppendFile.content c.args.file.now) (g.F.AppendFile.content c.append.new.self) (g.F.AppendFile.count c.args.file.now) (g.F.AppendFile.count c.append.new.self)
-      c.if-self.false puts c.in-Ok.ensures.cause.later)
+    (g.F.AppendFile.content c.args.file.now) (g.F.AppendFile.content c.append.new.self) (g.F.AppendFile.count c.args.file.now) (g.F.AppendFile.count c.append.new.self)
+    c.if-self.false puts c.in-Ok.ensures.cause.later)
 
 pub returns-clause-ok : goal.returns-clause-ok
 returns-clause-ok g c =
@@ -29,5 +29,5 @@ returns-clause-ok g c =
     let few = rw c.as_slice.ensures at c.in-Err.ensures.kept in
     rw (c.in_ok-lost.ensures, ← c.self.view_is)
     (turn_bad g.F.AppendFile.tells _ c.in-Some.write c.pop_front.new.self.items c.in-Some.ensures.items c.in-Err.fault.kept
-      (g.F.AppendFile.content c.args.file.now) (g.F.AppendFile.content c.append.new.self) (g.F.AppendFile.count c.args.file.now) (g.F.AppendFile.count c.append.new.self)
-      c.if-self.false few puts c.in-Err.ensures.cause.failed c.in-Err.ensures.cause.later)
+    (g.F.AppendFile.content c.args.file.now) (g.F.AppendFile.content c.append.new.self) (g.F.AppendFile.count c.args.file.now) (g.F.AppendFile.count c.append.new.self)
+    c.if-self.false few puts c.in-Err.ensures.cause.failed c.in-Err.ensures.cause.later)
