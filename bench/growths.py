@@ -62,7 +62,7 @@ def main():
     with open(os.path.join(options.crate, "stdout"), "rb") as wanted:
         whole = wanted.read()
     with open(os.path.join(options.crate, "args"), encoding="utf-8") as args:
-        words = args.read().split("\n")[:-1]
+        words = args.read().splitlines()
     wrong = 0
     done = 0
     for number in range(options.first, options.last + 1):
@@ -77,7 +77,7 @@ def main():
         sys.exit(f"growths: no run ended with status 0 up to allocation {options.last}")
     if wrong:
         sys.exit(f"growths: {wrong} runs ended wrong")
-    print(f"the run makes {number - done} allocations; each failed in turn, and each run ended as it must")
+    print(f"allocations {options.first} to {number - done} failed in turn, and each run ended as it must")
 
 
 if __name__ == "__main__":
