@@ -16,10 +16,10 @@ is_of object None = false
 is_of object (Some named) = is_same named object
 
 -- the entries that name calls of this object, in order
-abbrev pub plan_for : ObjectId → List Planned → List Planned
+unfoldable pub plan_for : ObjectId → List Planned → List Planned
 plan_for object entries = filter (λ p. is_of object p.object) entries
 
 -- what an append keeps by the first entry that names this call; none where the call isn't named
-abbrev pub due_of : List Planned → ℕ → Option ℕ
+unfoldable pub due_of : List Planned → ℕ → Option ℕ
 due_of [] call = None
 due_of (p ∷ ps) call = if p.call == call then Some p.kept else due_of ps call

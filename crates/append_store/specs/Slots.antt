@@ -5,7 +5,7 @@ use Rattle.gw_outside.specs.Causes.{raised}
 use Rattle.append_store.specs.Plan.{plan_for, due_of}
 use Rattle.append_store.specs.Calls.{Creates}
 use Rattle.append_store.specs.State.{ObjectState, Missing, Kept, Lent}
-use Rattle.append_store.specs.File.{FileState, shown}
+use Rattle.append_store.specs.File.{FileState}
 use Rattle.append_store.specs.declared.mem_file.Planned.{Planned}
 use Rattle.append_store.specs.declared.slots.Entry.{Entry}
 use Rattle.append_store.specs.declared.slots.Spot.{Spot}

@@ -1,5 +1,5 @@
 -- A store in memory, as contracts see it, and what its calls do with the planned failures.
-use Rattle.std.specs.Prelude.{◌≡◌, ◌≢◌, ◌+◌, ◌-◌, ◌^◌, min, ℕ, List, Option, is_some, is_err, IfOk, OnErr, IsSome, IsNone, Result, Ok, Err}
+use Rattle.std.specs.Prelude.{◌≡◌, ◌+◌, ◌-◌, ◌^◌, min, ℕ, List, is_some, is_err, OnErr, IsSome, IsNone, Result, Ok, Err}
 use Rattle.gw_model.specs.declared.object.ObjectId.{ObjectId}
 use Rattle.gw_outside.specs.Causes.{raised, count_after}
 use Rattle.append_store.specs.Plan.{plan_for}

@@ -37,11 +37,8 @@ fn is_planned_for(entry: &Planned, object: ObjectId) -> bool
 }
 
 // The entries of the plan that are for calls of this object.
-fn plan_of(
-    alloc: Global,
-    failing: &[Planned],
-    object: ObjectId,
-) -> Result<Vec<Planned>, AllocError>
+#[tactic(auto, unfolding(crate::specs::Plan::plan_for))]
+fn plan_of(alloc: Global, failing: &[Planned], object: ObjectId) -> Result<Vec<Planned>, AllocError>
     ensures { IfOk result (λ plan. plan.items ≡ plan_for object failing.now) }
 {
     let mut plan = Vec::new(alloc);

@@ -83,6 +83,7 @@ impl AppendFile for MemFile {
 }
 
 // What the first entry that names this call keeps.
+#[tactic(auto, unfolding(crate::specs::Plan::due_of))]
 fn first_due(plan: &[Planned], call: u64) -> Option<u64>
     ensures { result ≡ due_of plan.now call }
 {

@@ -27,6 +27,7 @@ pub(crate) struct Entry {
 }
 
 // Makes an object of no bytes where nothing is; false where the call is to fail.
+#[tactic(auto, unfolding(crate::specs::Plan::due_of))]
 pub(crate) fn create_at(object: ObjectId, entry: &mut Entry) -> bool
     ensures { CreatesSlot (entry_slot object entry.old) (entry_slot object entry.new) result }
 {

@@ -1,3 +1,6 @@
+ghost use Rattle.std.specs.Prelude.{◌≡◌};
+ghost use Rattle.append_store.specs.State.{Missing};
+
 use super::*;
 use gw_model::ObjectId;
 use std::test::Fail;
@@ -14,6 +17,15 @@ fn fails_at(call: u64) -> Planned {
         call,
         kept: 3,
     }
+}
+
+// Makes the body in a store where it isn't, and takes it.
+fn taken_anew<C: Cluster>(cluster: &mut C) -> Result<C::File, Fail>
+    requires { C.File.tells → C.at cluster.old BODY ≡ Missing }
+{
+    cluster.create(BODY).map_err(|_| "created")?;
+    let file = cluster.take_file(BODY).map_err(|_| "taken")?;
+    Ok(file)
 }
 
 #[test]
@@ -41,8 +53,7 @@ fn keeps_what_is_appended(rt: HostRuntime) -> Result<(), Fail> {
 fn keeps_the_front_at_a_planned_append(rt: HostRuntime) -> Result<(), Fail> {
     let alloc = rt.alloc();
     let mut cluster = MemCluster::new(alloc, vec![in alloc; fails_at(3)]?);
-    assert_eq!(rt; cluster.create(BODY), Ok(()));
-    let mut file = cluster.take_file(BODY).map_err(|_| "taken")?;
+    let mut file = taken_anew(&mut cluster)?;
     assert_eq!(rt; file.append(b"abcde"), Err(AppendFault { kept: 3 }));
     assert_eq!(rt; file.faults(), 1);
     assert_eq!(rt; file.append(b"xy"), Ok(()));
@@ -63,7 +74,7 @@ fn fails_a_planned_create_and_a_planned_taking(rt: HostRuntime) -> Result<(), Fa
     assert_eq!(rt; cluster.create(BODY), Ok(()));
     assert_eq!(rt; cluster.faults(), 1);
     let mut cluster = MemCluster::new(alloc, vec![in alloc; fails_at(2)]?);
-    assert_eq!(rt; cluster.create(BODY), Ok(()));
+    cluster.create(BODY).map_err(|_| "created")?;
     assert_eq!(rt; cluster.take_file(BODY).map(|_| ()), Err(StoreFault));
     assert_eq!(rt; cluster.take_file(BODY).map(|_| ()), Ok(()));
     assert_eq!(rt; cluster.content_of(BODY), None);

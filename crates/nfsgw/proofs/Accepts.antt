@@ -15,8 +15,8 @@ use Rattle.nfsgw.specs.World.{World, Turned, unlimited, fbig, notsupp, ask, requ
 use Rattle.nfsgw.specs.Steps as steps
 use Rattle.nfsgw.specs.Steps.{Context}
 use Rattle.nfsgw.specs.declared.call.WriteCall.{WriteCall}
-use Rattle.nfsgw.specs.declared.world.Range.{Range}
-use Rattle.nfsgw.specs.declared.world.HeldWrite.{HeldWrite}
+use Rattle.nfsgw.specs.declared.open_file.Range.{Range}
+use Rattle.nfsgw.specs.declared.open_file.HeldWrite.{HeldWrite}
 use Rattle.nfsgw.proofs.Book.{Book, Pending, asked_of, held_of, range_of, file_of, context_of, world_of, state_of, AreRows, Rise, Follow, NoneEmpty, bytes_of, Sound, AllSound, IsPlain, Leads}
 use Rattle.nfsgw.proofs.Plain.{not_refused, plain_next}
 use Rattle.nfsgw.proofs.Replies.{refused_leads}

@@ -8,8 +8,8 @@ use Rattle.gw_model.specs.Ahead.{Outcome, Done, Failed, Listed, NoMemory}
 use Rattle.gw_model.specs.File.{Put, Job, Failure, Live, File, content}
 use Rattle.nfsgw.specs.World.{Asked, World, Turned}
 use Rattle.nfsgw.specs.Steps.{Context, Step}
-use Rattle.nfsgw.specs.declared.world.Range.{Range}
-use Rattle.nfsgw.specs.declared.world.HeldWrite.{HeldWrite}
+use Rattle.nfsgw.specs.declared.open_file.Range.{Range}
+use Rattle.nfsgw.specs.declared.open_file.HeldWrite.{HeldWrite}
 use Rattle.nfsgw.specs.declared.grammar.Event.{Event}
 use Rattle.nfsgw.specs.declared.grammar.Event.TheVariants.{MakeFile, Write, Turn}
 

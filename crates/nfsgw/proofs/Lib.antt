@@ -1,6 +1,9 @@
 mod Rows
 pub mod Packing
 pub mod StepCases
+pub mod Runs
+pub mod Ready
+pub mod Finishes
 pub mod Book
 pub mod Plain
 pub mod Replies
@@ -10,3 +13,7 @@ pub mod Turns
 pub mod Ends
 pub mod Bridge
 pub mod Scripts
+pub mod CallParts
+pub mod CallLaw
+pub mod NameLaw
+pub mod GrammarLaw

@@ -54,11 +54,11 @@ script_few bytes = let h = few_events read true 0 (parts bytes) (omega arith) in
 
 -- the writes among the events are small
 
-abbrev SmallCall : Option WriteCall → Type 0
+abbrev pub SmallCall : Option WriteCall → Type 0
 SmallCall None = Unit {0}
 SmallCall (Some call) = (0 < length call.content) × (length call.content ≤ 1048576)
 
-abbrev SmallLine : Option Line → Type 0
+abbrev pub SmallLine : Option Line → Type 0
 SmallLine None = Unit {0}
 SmallLine (Some End) = Unit {0}
 SmallLine (Some (Go event)) = IsSmall event
@@ -68,7 +68,7 @@ SmallReading Last = Unit {0}
 SmallReading (Goes event later) = IsSmall event
 SmallReading Refused = Unit {0}
 
-by_test : {X : Type 0} (P : X → Type 0) (b : Bool) (x y : X) → P x → P y → P (if b then x else y)
+pub by_test : {X : Type 0} (P : X → Type 0) (b : Bool) (x y : X) → P x → P y → P (if b then x else y)
 by_test P true x y h k = h
 by_test P false x y h k = k
 
@@ -110,7 +110,7 @@ bytes_small : (text : List ℕ) (space : Option ℕ) → SmallLine (bytes_line t
 bytes_small text None = tt
 bytes_small text (Some i) = in_small (number_of 32 (take i text)) (bytes_of (drop (i + 1) text))
 
-line_small : (first : Bool) (text : List ℕ) → SmallLine (line_of first text)
+pub line_small : (first : Bool) (text : List ℕ) → SmallLine (line_of first text)
 unfolding line_of
 line_small true text = by_test SmallLine (starts_with nat_eq text (codes "file ") && is_name (drop 5 text)) (Some (Go MakeFile)) None tt tt
 line_small false text =

@@ -1,5 +1,5 @@
 -- The lines of a transcript of in-order writes.
-use Rattle.std.specs.Prelude.{◌≡◌, ◌≢◌, ℕ, ◌+◌, ◌^◌, ◌<◌, ◌≤◌, ◌==◌, ◌&&◌, Bool, true, false, not, if◌then◌else◌, nat_lt, nat_le, nat_eq, List, [], ◌∷◌, ◌++◌, length, take, drop, codes, position, decimal, bytes_eq, Option, Some, None, Ok}
+use Rattle.std.specs.Prelude.{◌≡◌, ◌≢◌, ℕ, ◌+◌, ◌^◌, ◌<◌, ◌≤◌, ◌==◌, ◌&&◌, Bool, true, false, not, if◌then◌else◌, nat_lt, nat_le, nat_eq, List, ◌∷◌, ◌++◌, length, take, drop, codes, position, decimal, bytes_eq, Option, Some, None, Ok}
 use Rattle.std.specs.List.{starts_with, AllPass, list_all}
 use Rattle.hex.specs.Hex.{decode_of}
 use Rattle.transcript.specs.Fields.{number_of, bytes_of}

@@ -44,7 +44,6 @@ pub record Moves (tells : Type 0) (before after : Outside) (traffic : Traffic) :
   pub writes : Appends before.held after.held traffic.written
   pub puts : tells → after.body ≡ before.body ++ traffic.put
   pub fails : Fails traffic.calls before.faults after.faults
-  pub later : before.faults ≤ after.faults
 
 abbrev pub outcome_of : Called → Outcome
 outcome_of Good = Done

@@ -7,3 +7,5 @@ pub mod Steps
 pub mod Replies
 pub mod Packed
 pub mod Outside
+pub mod Found
+pub mod Progress

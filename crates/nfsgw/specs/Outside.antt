@@ -2,10 +2,12 @@
 use Rattle.std.specs.Prelude.{◌≡◌, ℕ, ◌+◌, ◌≤◌, Bool, true, false, List, [], ◌++◌, length, Option, Some, None, string_bytes}
 use Rattle.gw_model.specs.declared.object.ObjectId.{ObjectId}
 use Rattle.gw_model.specs.declared.object.ObjectId.TheVariants.{Body}
-use Rattle.gw_model.specs.Ahead.{Called}
+use Rattle.gw_model.specs.Ahead.{Ahead, Called}
+use Rattle.gw_outside.specs.Causes.{Carries}
 use Rattle.append_store.specs.State.{ObjectState, Lent, IsThere, IsAway, bytes_of}
 use Rattle.nfsgw.specs.Headline.{Fails, ahead_of}
-use Rattle.nfsgw.specs.Steps.{Context, step_of}
+use Rattle.nfsgw.specs.Steps.{Context, says, placed, step_of}
+use Rattle.nfsgw.specs.declared.call.WriteCall.{WriteCall}
 use Rattle.nfsgw.specs.declared.grammar.Event.{Event}
 use Rattle.nfsgw.specs.declared.grammar.Event.TheVariants.{MakeFile, Write, Turn}
 use Rattle.nfsgw.specs.declared.world.Stepped.{Stepped}
@@ -24,6 +26,11 @@ body_at s (Some content) = content
 abbrev pub faults_at : ℕ → Option ℕ → ℕ
 faults_at n None = n
 faults_at n (Some m) = n + m
+
+-- a store's count after it got the file back, if one was out
+abbrev pub GivesBack : ℕ → Option ℕ → ℕ → Type 0
+GivesBack before None now = before ≤ now
+GivesBack before (Some given) now = Carries before given now
 
 -- The file that was taken is out; else the body isn't out.
 abbrev pub Safe : Type 0 → ObjectState → Option ObjectId → Type 0
@@ -70,9 +77,19 @@ pub record IsStep (tells : Type 0) (event : Event) (old new : Option Context) (t
   pub fails : Fails calls faults faults'
   pub later : faults ≤ faults'
 
+-- A write of the open file, without a call of the store: what it leaves and what it writes.
+pub record Places (conn : ℕ) (call : WriteCall) (old new : Context) (text : List ℕ) : Type 0 where
+  pub next : (t : Ahead) → placed conn call old t ≡ says (Some new) text t
+  pub base : new.base ≡ old.base
+
 pub record Untouched (tells : Type 0) (body body' : List ℕ) (faults faults' : ℕ) : Type 0 where
   pub puts : tells → body' ≡ body
   pub later : faults ≤ faults'
+
+-- the event was done, and the run goes on
+abbrev pub IsText : Stepped → Type 0
+IsText (stepped.Text text) = Unit {0}
+IsText _ = ⊥
 
 abbrev pub IsStepped : Type 0 → Stepped → Event → Option Context → Option Context → List ℕ → List ℕ → ℕ → ℕ → Type 0
 IsStepped tells (stepped.Text text) event old new body body' faults faults' = IsStep tells event old new (string_bytes text) false body body' faults faults'

@@ -1,3 +1,4 @@
+pub mod Digits
 pub mod Numbers
 pub mod ScriptLaws
 pub mod Feeds

@@ -38,7 +38,8 @@ pub(crate) fn move_to_front(buffer: &mut Vec<u8>, start: usize, end: usize)
     }
 }
 
-// Makes room for a read behind the first `end` bytes. The room at least doubles, so that a long line is read in few growths.
+// Makes room for a read behind the first `end` bytes. It grows to twice what is held and more, so that a long line
+// is copied few times.
 pub(crate) fn make_room(buffer: &mut Vec<u8>, end: usize) -> Result<(), AllocError>
     requires inside { end ≤ vec_len buffer.old }
     requires short { end ≤ max_line }
@@ -63,7 +64,8 @@ pub(crate) fn read_behind<S: Source>(
     ensures len { vec_len buffer.new ≡ vec_len buffer.old }
     ensures bound { IfOk result (λ n. end + n ≤ vec_len buffer.new) }
     ensures bytes { MatchResult result
-        (λ n. Consumes (S.left source.old) (S.left source.new) (take n (drop end buffer.new.items)) × (n ≡ 0 → IsAtEnd (S.left source.new)))
+        (λ n. Consumes (S.left source.old) (S.left source.new) (take n (drop end buffer.new.items))
+        × (n ≡ 0 → IsAtEnd (S.left source.new)))
         (λ _. Keeps (S.left source.old) (S.left source.new)) }
     ensures ended { IfOk result (λ n. n ≡ 0 → IsTrue (S.ended source.new)) }
     ensures cause { HasCause (S.count source.old) (S.count source.new) result }

@@ -1,10 +1,40 @@
 // Bytes in hex digits.
-ghost use Rattle.std.specs.Prelude.{◌≡◌, ◌++◌, None, Some, IfOk, MatchOption, OnOk, OnErr};
-ghost use Rattle.hex.specs.Hex.{encode_lower};
+ghost use Rattle.std.specs.Prelude.{◌≡◌, ◌++◌, ◌*◌, ◌<◌, None, Some, Ok, IfOk, MatchOption, MatchBool, OnOk, OnErr, IsErr, length};
+ghost use Rattle.hex.specs.Hex.{decode_pairs, encode_lower, hex_digit_value};
 ghost use Rattle.transcript.specs.Fields.{bytes_of};
 
-use hex::FromHexError;
 use std::alloc::{AllocError, Global};
+
+// What stands for no digit, above the value of each.
+const NO_DIGIT: u8 = 255;
+
+// The value of a hex digit of either case.
+fn digit_value(digit: u8) -> u8
+    ensures { MatchOption (hex_digit_value digit) (result ≡ 255) (λ value. (result ≡ value) × (value < 16)) }
+{
+    match digit {
+        b'0'..=b'9' => digit - b'0',
+        b'a'..=b'f' => digit - b'a' + 10,
+        b'A'..=b'F' => digit - b'A' + 10,
+        _ => NO_DIGIT,
+    }
+}
+
+// Decodes pairs of digits, and says whether all were digits. Digits in random order make a branch at each digit dear, so
+// the loop has none, and looks at the greatest value at the end.
+fn decode_pairs(text: &[u8], bytes: &mut [u8]) -> bool
+    requires { length text.now ≡ 2 * length bytes.old }
+    ensures { MatchBool result (decode_pairs 0 text.now ≡ Ok bytes.new) (IsErr (decode_pairs 0 text.now)) }
+{
+    let mut greatest = 0u8;
+    for i in 0..bytes.len() {
+        let high = digit_value(text[2 * i]);
+        let low = digit_value(text[2 * i + 1]);
+        greatest = greatest.max(high).max(low);
+        bytes[i] = high.wrapping_mul(16).wrapping_add(low);
+    }
+    greatest < 16
+}
 
 /// The bytes of a field, which has two hex digits of either case a byte and at least one byte. Every other text is
 /// `None`. It fails only for want of memory.
@@ -12,11 +42,14 @@ pub fn decode(alloc: Global, text: &[u8]) -> Result<Option<Vec<u8>>, AllocError>
     ensures { IfOk result (λ field. MatchOption field (bytes_of text.now ≡ None)
         (λ bytes. bytes_of text.now ≡ Some bytes.items)) }
 {
-    match hex::decode(alloc, text) {
-        Ok(bytes) if bytes.is_empty() => Ok(None),
-        Ok(bytes) => Ok(Some(bytes)),
-        Err(FromHexError::OutOfMemory) => Err(AllocError),
-        Err(_) => Ok(None),
+    if text.is_empty() || text.len() % 2 != 0 {
+        return Ok(None);
+    }
+    let mut bytes = vec![in alloc; 0u8; text.len() / 2]?;
+    if decode_pairs(text, bytes.as_mut_slice()) {
+        Ok(Some(bytes))
+    } else {
+        Ok(None)
     }
 }
 

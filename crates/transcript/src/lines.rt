@@ -44,7 +44,8 @@ impl Model for Lines {
       pending = take (l.end - l.start) (drop l.start l.buffer.items);
     } };
 
-    ghost invariant = { λ l. (l.line_start + l.line_length ≤ vec_len l.buffer) × (l.start ≤ l.scanned) × (l.scanned ≤ l.end) × (l.end ≤ vec_len l.buffer)
+    ghost invariant = { λ l. (l.line_start + l.line_length ≤ vec_len l.buffer)
+        × (l.start ≤ l.scanned) × (l.scanned ≤ l.end) × (l.end ≤ vec_len l.buffer)
         × HasNoFeed (take (l.scanned - l.start) (drop l.start l.buffer.items)) };
 }
 

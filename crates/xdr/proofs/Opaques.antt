@@ -1,11 +1,10 @@
 -- The laws of opaques and of the end.
-use Rattle.std.proofs.Common.{◌≡◌, ℕ, ◌+◌, ◌≤◌, ◌<◌, ◌^◌, Bool, true, false, cond, nat_lt, List, [], ◌∷◌, ◌++◌, length, take, drop, replicate, refl, sym, ap, ◌∙◌, subst, arith, length-append, length-drop, append_assoc, Result, Ok, Err}
+use Rattle.std.proofs.Common.{◌≡◌, ℕ, ◌+◌, ◌≤◌, ◌<◌, ◌^◌, Bool, true, false, cond, nat_lt, List, [], ◌∷◌, ◌++◌, length, take, drop, replicate, refl, sym, ap, ◌∙◌, subst, arith, length-append, length-drop, append_assoc, Ok, Err}
 use Rattle.std.proofs.lemmas.Bool.{le-ltb}
 use Rattle.std.proofs.lemmas.List.{length-take-le, length-replicate}
-use Rattle.std.proofs.Math.Seq.{take-add, drop-append-add}
-use Rattle.xdr.specs.declared.fault.XdrFault.{XdrFault}
+use Rattle.std.proofs.Math.Seq.{take-add}
 use Rattle.xdr.specs.declared.fault.XdrFault.TheVariants.{Short, TooLong}
-use Rattle.xdr.specs.Items.{word, pad_len, fixed_text, opaque_text, SpellsU32, SpellsFixed, SpellsOpaque}
+use Rattle.xdr.specs.Items.{word, pad_len, fixed_text, opaque_text, SpellsFixed, SpellsOpaque}
 use Rattle.xdr.specs.Reading.{Cursor, Reading, advance, next_word, Takes, padded_at, opaque_at, fixed_at, finish_at, end_at}
 use Rattle.xdr.proofs.Fronts.{take_front, drop_front, advanced, fits, takes}
 use Rattle.xdr.proofs.Numbers.{done, enough, word_front, word_spells}
@@ -45,7 +44,7 @@ padded_of skip from to head v padding h p l at =
     let front = head ++ (v ++ padding) in
     let n : length front ≡ skip + length v + pad_len (length v) = omega (arith, length-append head (v ++ padding), length-append v padding) in
     let value : take (length v) (drop skip from.left) ≡ v =
-      ap (λ (k : List ℕ). take (length v) (drop skip k)) (l ∙ append_assoc head (v ++ padding) to.left) ∙ ap (λ (k : List ℕ). take (length v) k) (drop_front skip head ((v ++ padding) ++ to.left) h ∙ append_assoc v padding to.left) ∙ take_front (length v) v (padding ++ to.left) refl in
+    ap (λ (k : List ℕ). take (length v) (drop skip k)) (l ∙ append_assoc head (v ++ padding) to.left) ∙ ap (λ (k : List ℕ). take (length v) k) (drop_front skip head ((v ++ padding) ++ to.left) h ∙ append_assoc v padding to.left) ∙ take_front (length v) v (padding ++ to.left) refl in
     record { enough_left = fits (skip + length v + pad_len (length v)) front from to n l; value = value; behind = advanced (skip + length v + pad_len (length v)) front from to n l at }
 
 pub fixed_forth : (len : ℕ) (from to : Cursor) (v : List ℕ) → fixed_at len from ≡ Ok (v, to) → (length v ≡ len) × Takes SpellsFixed from v to

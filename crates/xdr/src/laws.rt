@@ -12,7 +12,7 @@ pub fn u32_law()
     ensures written { (n : ℕ) → n < 2 ^ 32 → SpellsU32 (word n) n }
     ensures again { (place n : ℕ) (rest : List ℕ) → n < 2 ^ 32
         → u32_at (record { place = place; left = word n ++ rest })
-            ≡ Ok (n, record { place = place + 4; left = rest }) }
+        ≡ Ok (n, record { place = place + 4; left = rest }) }
     ensures only { (bytes : List ℕ) (n : ℕ) → All (λ b. b < 256) bytes → SpellsU32 bytes n → bytes ≡ word n }
 {}
 
@@ -22,7 +22,7 @@ pub fn u64_law()
     ensures written { (n : ℕ) → n < 2 ^ 64 → SpellsU64 (long n) n }
     ensures again { (place n : ℕ) (rest : List ℕ) → n < 2 ^ 64
         → u64_at (record { place = place; left = long n ++ rest })
-            ≡ Ok (n, record { place = place + 8; left = rest }) }
+        ≡ Ok (n, record { place = place + 8; left = rest }) }
     ensures only { (bytes : List ℕ) (n : ℕ) → All (λ b. b < 256) bytes → SpellsU64 bytes n → bytes ≡ long n }
 {}
 
@@ -32,7 +32,7 @@ pub fn bool_law()
     ensures written { (b : Bool) → SpellsBool (bool_text b) b }
     ensures again { (place : ℕ) (b : Bool) (rest : List ℕ)
         → bool_at (record { place = place; left = bool_text b ++ rest })
-            ≡ Ok (b, record { place = place + 4; left = rest }) }
+        ≡ Ok (b, record { place = place + 4; left = rest }) }
 {}
 
 /// An opaque of a known length is read from exactly its spellings, of which the written one has zero
@@ -43,7 +43,7 @@ pub fn fixed_law()
     ensures written { (v : List ℕ) → SpellsFixed (fixed_text v) v }
     ensures again { (place : ℕ) (v rest : List ℕ)
         → fixed_at (length v) (record { place = place; left = fixed_text v ++ rest })
-            ≡ Ok (v, record { place = place + (length v + pad_len (length v)); left = rest }) }
+        ≡ Ok (v, record { place = place + (length v + pad_len (length v)); left = rest }) }
 {}
 
 /// The same for an opaque with its length, up to a greatest length.
@@ -53,7 +53,7 @@ pub fn opaque_law()
     ensures written { (v : List ℕ) → length v < 2 ^ 32 → SpellsOpaque (opaque_text v) v }
     ensures again { (max place : ℕ) (v rest : List ℕ) → length v ≤ max → length v < 2 ^ 32
         → opaque_at max (record { place = place; left = opaque_text v ++ rest })
-            ≡ Ok (v, record { place = place + (4 + length v + pad_len (length v)); left = rest }) }
+        ≡ Ok (v, record { place = place + (4 + length v + pad_len (length v)); left = rest }) }
 {}
 
 /// The reading ends well exactly where nothing is left.

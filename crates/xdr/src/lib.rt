@@ -7,7 +7,10 @@ mod padding;
 mod reader;
 mod writer;
 
-pub use laws::{bool_law, fixed_law, finish_law, opaque_law, u32_law, u64_law};
 pub use fault::{NoMemory, XdrFault};
+pub use laws::{bool_law, finish_law, fixed_law, opaque_law, u32_law, u64_law};
 pub use reader::Reader;
 pub use writer::Writer;
+
+#[cfg(test)]
+mod tests;

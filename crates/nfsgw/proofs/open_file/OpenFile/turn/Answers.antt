@@ -1,4 +1,5 @@
 use Rattle.std.proofs.Common.{◌≡◌, ◌+◌, ◌≤◌, ◌∷◌, [], ◌++◌, ap, sym, ◌∙◌, length, take, refl, arith}
+use Rattle.std.proofs.Math.Seq.{take-length}
 use Rattle.nfsgw.proofs.Packing.{none_left}
 use Rattle.nfsgw.proofs.StepCases.{turn_none, turn_lost, turn_good, turn_bad}
 use Rattle.nfsgw.proofs.open_file.OpenFile.turn.Goals as goal

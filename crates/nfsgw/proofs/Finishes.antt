@@ -1,0 +1,283 @@
+-- From the end of the lines to the end of the run.
+use Rattle.std.proofs.Common.{◌≡◌, ◌≢◌, ℕ, ◌+◌, ◌-◌, ◌^◌, ◌<◌, ◌≤◌, min, Bool, true, false, List, [], ◌∷◌, ◌++◌, length, take, replicate, Some, None, unwrap_or, refl, sym, ◌∙◌, ap, subst, append_assoc, append-nil, length-append, get_or, ◌⊎◌, inl, inr, arith}
+use Rattle.std.specs.declared.option.Option.{Option}
+use Rattle.std.specs.Io.KnownBytes.{Consumes, Appends, IsAtEnd}
+use Rattle.std.proofs.KnownBytes.{Appends-nil, Appends-trans, Consumes-nil}
+use Rattle.std.proofs.Math.Seq.{take-length}
+use Rattle.std.proofs.lemmas.List.{length-take, length-replicate}
+use Rattle.gw_outside.specs.Causes.{Rose}
+use Rattle.gw_model.specs.Ahead.{Called}
+use Rattle.transcript.specs.Script.{Stop, AtEnd, AtBad, AtOpen}
+use Rattle.transcript.specs.Writing.{IsPrefix, AppendsPrefix}
+use Rattle.nfsgw.specs.Headline.{Outside, Traffic, Moves, Fails, nothing, script, ahead_of, output, IsWhole, IsFront, IsShort, IsRun, Runs}
+use Rattle.nfsgw.specs.World.{Told}
+use Rattle.nfsgw.specs.Steps.{Context, Gone, gone_of, gone_at_end, onto, end_history}
+use Rattle.nfsgw.specs.Outside.{Fits, Opens, GivesBack, faults_at}
+use Rattle.nfsgw.specs.Progress.{Closes, IsFrontOf, IsShortOf, stopped_with, IsEnding, Keeps, Ends, status_by}
+use Rattle.nfsgw.specs.declared.run.Turn.{Turn}
+use Rattle.nfsgw.specs.declared.run.Turn.TheVariants as turn
+use Rattle.nfsgw.specs.declared.status.Status.{Status}
+use Rattle.nfsgw.specs.declared.status.Status.TheVariants as status
+use Rattle.nfsgw.proofs.Bridge.{IsTold}
+use Rattle.nfsgw.proofs.Scripts.{output_is}
+use Rattle.nfsgw.proofs.Runs.{Moves-nil}
+
+bad_is_not_end : AtBad ≢ AtEnd
+bad_is_not_end e = cc
+
+open_is_not_end : AtOpen ≢ AtEnd
+open_is_not_end e = cc
+
+nothing_left : (left : Option (List ℕ)) → IsAtEnd left → unwrap_or left [] ≡ []
+nothing_left None h = refl
+nothing_left (Some xs) h = h
+
+-- the body over which the run is told: what it held, where the store tells, and else some bytes of the length that it had
+
+sized : ℕ → List ℕ → List ℕ
+sized n bytes = take n bytes ++ replicate (n - length bytes) 0
+
+length-sized : (n : ℕ) (bytes : List ℕ) → length (sized n bytes) ≡ n
+unfolding sized
+length-sized n bytes = omega (arith, length-append (take n bytes) (replicate (n - length bytes) 0), length-take n bytes, length-replicate (n - length bytes) 0)
+
+sized-same : (n : ℕ) (bytes : List ℕ) → n ≡ length bytes → bytes ≡ sized n bytes
+unfolding sized
+sized-same n bytes e =
+    let none : n - length bytes ≡ 0 = omega (arith, e) in
+    let all : take n bytes ≡ bytes = ap (λ k. take k bytes) e ∙ take-length bytes in
+    rw (none, all) (sym (append-nil bytes))
+
+told_body : Option Context → List ℕ → List ℕ
+told_body None bytes = bytes
+told_body (Some c) bytes = sized c.base bytes
+
+fits_body : (kept : Option Context) (bytes : List ℕ) → Fits (length (told_body kept bytes)) kept
+unfolding told_body
+fits_body None bytes = tt
+fits_body (Some c) bytes = sym (length-sized c.base bytes)
+
+told_as : (kept : Option Context) (bytes put : List ℕ) → Opens (length bytes) None kept put → bytes ≡ told_body kept bytes
+unfolding told_body
+told_as None bytes put o = refl
+told_as (Some c) bytes put o = sized-same c.base bytes o
+
+-- from what the program's steps came to, to what the definition says
+
+whole_is : (body bytes : List ℕ) (stopped : Bool) (s : Traffic) → gone_of (length body) None (script bytes).events (ahead_of s.calls) ≡ record { text = s.written; put = s.put; stopped = stopped; ahead = ahead_of [] } → IsWhole body bytes stopped s
+whole_is body bytes stopped s e =
+    let t = output_is body bytes s.calls in record {
+      text = t.text ∙ ap (λ x. x.text) e;
+      content = t.body ∙ ap (λ x. body ++ x.put) e;
+      stop = t.stopped ∙ ap (λ x. x.stopped) e;
+      ahead = t.ahead ∙ ap (λ x. x.ahead) e;
+    }
+
+short_is : (body bytes : List ℕ) (kept : Option Context) (s : Traffic) → Fits (length body) kept → IsShortOf bytes kept s → IsShort body bytes s
+short_is body bytes kept s fits g = λ later.
+    let t = output_is body bytes (s.calls ++ later) in
+    let f = g (length body) fits later in (
+      (f.0.0, t.text ∙ f.0.1),
+      (f.1.0, t.body ∙ ap (λ x. body ++ x) f.1.1 ∙ sym (append_assoc body s.put f.1.0)),
+    )
+
+-- the history
+
+-- after the lines, what was written of the history
+abbrev more_text : Traffic → List ℕ → Traffic
+more_text s text = record s { written = s.written ++ text }
+
+module _ (kept : Option Context) (body : List ℕ) (fits : Fits (length body) kept) where
+  whole_of : (stop : Stop) (n : ℕ) (bytes : List ℕ) (s : Traffic) → Closes stop n bytes s kept → IsWhole body bytes false (more_text s (end_history kept))
+  whole_of stop n bytes s c = whole_is body bytes false (more_text s (end_history kept))
+      (ap (λ o. gone_of (length body) None (script bytes).events (ahead_of o)) (sym (append-nil s.calls)) ∙ c.gone (length body) fits [] ∙ rw (append-nil s.put) refl)
+
+  bad : (stop : Stop) (n : ℕ) (bytes : List ℕ) (s : Traffic) → stop ≢ AtEnd → Closes stop n bytes s kept → IsRun (status.BadLine (n + 1)) body bytes (more_text s (end_history kept))
+  bad stop n bytes s apart c = (λ e. apart (sym c.stopped ∙ e), ap (λ k. k + 1) (sym c.count), whole_of stop n bytes s c)
+
+  whole : (is : Turn) (n : ℕ) (s : Traffic) (left : Option (List ℕ)) → is ≢ turn.StoreFault → is ≢ turn.WriteFault → is ≢ turn.NoMemory → IsEnding is n s kept left
+      → IsRun (status_by is n) body (s.taken ++ unwrap_or left []) (more_text s (end_history kept))
+  whole turn.More n s left ns nw nm e = absurd e
+  whole turn.Ended n s left ns nw nm e = let c = e (unwrap_or left []) in (c.stopped, whole_of AtEnd n _ s c)
+  whole turn.Bad n s left ns nw nm e = bad AtBad n _ s bad_is_not_end (e (unwrap_or left []))
+  whole turn.Open n s left ns nw nm e =
+      subst (λ b. IsRun (status.BadLine (n + 1)) body b (more_text s (end_history kept))) (sym (ap (λ x. s.taken ++ x) (nothing_left left e.1) ∙ append-nil s.taken)) (bad AtOpen n s.taken s open_is_not_end e.0)
+  whole turn.ReadFault n s left ns nw nm e = (e.stopped, whole_of AtOpen n s.taken s e)
+  whole turn.StoreFault n s left ns nw nm e = absurd (ns refl)
+  whole turn.WriteFault n s left ns nw nm e = absurd (nw refl)
+  whole turn.NoMemory n s left ns nw nm e = absurd (nm refl)
+
+  short_of : (stop : Stop) (n : ℕ) (s : Traffic) (part : List ℕ) → Closes stop n s.taken s kept → IsPrefix part (end_history kept) → IsShortOf s.taken kept (more_text s part)
+  short_of stop n s part c f = λ base fit later.
+      ((f.0, ap (λ x. x.text) (c.gone base fit later) ∙ ap (λ x. s.written ++ x) f.1 ∙ sym (append_assoc s.written part f.0)), ([], ap (λ x. x.put) (c.gone base fit later)))
+
+  short_more : (stop : Stop) (n : ℕ) (s : Traffic) (part : List ℕ) → Closes stop n (s.taken ++ []) s kept → IsPrefix part (end_history kept) → IsShortOf s.taken kept (more_text s part)
+  short_more stop n s part c f = short_of stop n s part (subst (λ b. Closes stop n b s kept) (append-nil s.taken) c) f
+
+  short : (is : Turn) (n : ℕ) (s : Traffic) (part : List ℕ) (left : Option (List ℕ)) → is ≢ turn.StoreFault → is ≢ turn.WriteFault → is ≢ turn.NoMemory → IsEnding is n s kept left
+      → IsPrefix part (end_history kept) → IsShort body s.taken (more_text s part)
+  short is n s part left ns nw nm e f = short_is body s.taken kept (more_text s part) fits (go is ns nw nm e)
+    where
+      go : (is : Turn) → is ≢ turn.StoreFault → is ≢ turn.WriteFault → is ≢ turn.NoMemory → IsEnding is n s kept left → IsShortOf s.taken kept (more_text s part)
+      go turn.More ns nw nm e = absurd e
+      go turn.Ended ns nw nm e = short_more AtEnd n s part (e []) f
+      go turn.Bad ns nw nm e = short_more AtBad n s part (e []) f
+      go turn.Open ns nw nm e = short_of AtOpen n s part e.0 f
+      go turn.ReadFault ns nw nm e = short_of AtOpen n s part e f
+      go turn.StoreFault ns nw nm e = absurd (ns refl)
+      go turn.WriteFault ns nw nm e = absurd (nw refl)
+      go turn.NoMemory ns nw nm e = absurd (nm refl)
+
+-- the file is given back, and more was written
+
+given_fails : (calls : List Called) (a n : ℕ) (given : Option ℕ) (now : ℕ) → Fails calls a (faults_at n given) → GivesBack n given now → Fails calls a now
+given_fails calls a n None now f g = omega (arith, f, g)
+given_fails calls a n (Some m) now f g = let c = g.carried in omega (arith, f, c)
+
+module _ (tells : Type 0) (is : Turn) (n : ℕ) (state : Option Context) (left left' held mid : Option (List ℕ)) (body bodied body' : List ℕ) (a m : ℕ) (given : Option ℕ) (now : ℕ)
+    (e : Ends tells is n state (record { left = left; held = held; body = body; faults = a }) (record { left = left'; held = mid; body = bodied; faults = faults_at m given }))
+    (back : GivesBack m given now) (bytes : tells → body' ≡ bodied) where
+  abbrev before : Outside
+  before = record { left = left; held = held; body = body; faults = a }
+
+  abbrev over : List ℕ
+  over = told_body e.kept body
+
+  moved : (held' : Option (List ℕ)) (text : List ℕ) → Appends mid held' text → Moves tells before (record { left = left'; held = held'; body = body'; faults = now }) (more_text e.traffic text)
+  moved held' text w = record {
+    reads = e.moves.reads;
+    writes = Appends-trans held mid held' _ _ e.moves.writes w;
+    puts = λ told. bytes told ∙ e.moves.puts told;
+    fails = given_fails e.traffic.calls a m given now e.moves.fails back;
+  }
+
+  moved_only : Moves tells before (record { left = left'; held = mid; body = body'; faults = now }) e.traffic
+  moved_only = record {
+    reads = e.moves.reads;
+    writes = e.moves.writes;
+    puts = λ told. bytes told ∙ e.moves.puts told;
+    fails = given_fails e.traffic.calls a m given now e.moves.fails back;
+  }
+
+  as_kept : is ≢ turn.StoreFault → is ≢ turn.WriteFault → is ≢ turn.NoMemory → state ≡ e.kept
+  as_kept ns nw nm = go is ns nw nm e.keeps e.ending
+    where
+      go : (x : Turn) → x ≢ turn.StoreFault → x ≢ turn.WriteFault → x ≢ turn.NoMemory → Keeps x e.kept state → IsEnding x n e.traffic e.kept left' → state ≡ e.kept
+      go turn.More ns nw nm k g = absurd g
+      go turn.Ended ns nw nm k g = k
+      go turn.Bad ns nw nm k g = k
+      go turn.Open ns nw nm k g = k
+      go turn.ReadFault ns nw nm k g = k
+      go turn.StoreFault ns nw nm k g = absurd (ns refl)
+      go turn.WriteFault ns nw nm k g = absurd (nw refl)
+      go turn.NoMemory ns nw nm k g = absurd (nm refl)
+
+  pub runs_whole : (held' : Option (List ℕ)) → is ≢ turn.StoreFault → is ≢ turn.WriteFault → is ≢ turn.NoMemory → Appends mid held' (end_history state)
+      → Runs tells (status_by is n) before (record { left = left'; held = held'; body = body'; faults = now })
+  runs_whole held' ns nw nm w = record {
+    traffic = more_text e.traffic (end_history e.kept);
+    moves = moved held' (end_history e.kept) (subst (λ s. Appends mid held' (end_history s)) (as_kept ns nw nm) w);
+    body = over;
+    told = λ told. told_as e.kept body e.traffic.put (e.opens told);
+    run = whole e.kept over (fits_body e.kept body) is n e.traffic left' ns nw nm e.ending;
+  }
+
+  pub runs_short : (held' : Option (List ℕ)) → is ≢ turn.StoreFault → is ≢ turn.WriteFault → is ≢ turn.NoMemory → AppendsPrefix mid held' (end_history state)
+      → Runs tells status.WriteFault before (record { left = left'; held = held'; body = body'; faults = now })
+  runs_short held' ns nw nm w = record {
+    traffic = more_text e.traffic w.0;
+    moves = moved held' w.0 w.1;
+    body = over;
+    told = λ told. told_as e.kept body e.traffic.put (e.opens told);
+    run = short e.kept over (fits_body e.kept body) is n e.traffic w.0 left' ns nw nm e.ending (subst (λ s. IsPrefix w.0 (end_history s)) (as_kept ns nw nm) w.2);
+  }
+
+  pub runs_unwritten : (held' : Option (List ℕ)) → is ≢ turn.StoreFault → is ≢ turn.WriteFault → is ≢ turn.NoMemory → Appends mid held' []
+      → Runs tells status.NoMemory before (record { left = left'; held = held'; body = body'; faults = now })
+  runs_unwritten held' ns nw nm w = record {
+    traffic = more_text e.traffic [];
+    moves = moved held' [] w;
+    body = over;
+    told = λ told. told_as e.kept body e.traffic.put (e.opens told);
+    run = short e.kept over (fits_body e.kept body) is n e.traffic [] left' ns nw nm e.ending (end_history e.kept, refl);
+  }
+
+  pub runs_cut : (is ≡ turn.StoreFault) ⊎ ((is ≡ turn.WriteFault) ⊎ (is ≡ turn.NoMemory)) → Runs tells (status_by is n) before (record { left = left'; held = mid; body = body'; faults = now })
+  runs_cut which = record {
+    traffic = e.traffic;
+    moves = moved_only;
+    body = over;
+    told = λ told. told_as e.kept body e.traffic.put (e.opens told);
+    run = go is which e.ending;
+  }
+    where
+      go : (x : Turn) → (x ≡ turn.StoreFault) ⊎ ((x ≡ turn.WriteFault) ⊎ (x ≡ turn.NoMemory)) → IsEnding x n e.traffic e.kept left' → IsRun (status_by x n) over (e.traffic.taken ++ unwrap_or left' []) e.traffic
+      go turn.More which g = absurd g
+      go turn.Ended (inl q) g = cc
+      go turn.Ended (inr (inl q)) g = cc
+      go turn.Ended (inr (inr q)) g = cc
+      go turn.Bad (inl q) g = cc
+      go turn.Bad (inr (inl q)) g = cc
+      go turn.Bad (inr (inr q)) g = cc
+      go turn.Open (inl q) g = cc
+      go turn.Open (inr (inl q)) g = cc
+      go turn.Open (inr (inr q)) g = cc
+      go turn.ReadFault (inl q) g = cc
+      go turn.ReadFault (inr (inl q)) g = cc
+      go turn.ReadFault (inr (inr q)) g = cc
+      go turn.StoreFault which g = whole_is over e.traffic.taken true e.traffic (g (length over) (fits_body e.kept body))
+      go turn.WriteFault which g = short_is over e.traffic.taken e.kept e.traffic (fits_body e.kept body) g
+      go turn.NoMemory which g = short_is over e.traffic.taken e.kept e.traffic (fits_body e.kept body) g
+
+pub runs_usage : (tells : Type 0) (o : Outside) → Runs tells status.Usage o o
+runs_usage tells o = record { traffic = nothing; moves = Moves-nil tells o; body = o.body; told = λ told. refl; run = refl }
+
+pub status_read : (is : Turn) (n : ℕ) → status_by is n ≡ status.ReadFault → is ≡ turn.ReadFault
+status_read turn.More n e = cc
+status_read turn.Ended n e = cc
+status_read turn.Bad n e = cc
+status_read turn.Open n e = cc
+status_read turn.ReadFault n e = refl
+status_read turn.StoreFault n e = cc
+status_read turn.WriteFault n e = cc
+status_read turn.NoMemory n e = cc
+
+pub status_write : (is : Turn) (n : ℕ) → status_by is n ≡ status.WriteFault → is ≡ turn.WriteFault
+status_write turn.More n e = cc
+status_write turn.Ended n e = cc
+status_write turn.Bad n e = cc
+status_write turn.Open n e = cc
+status_write turn.ReadFault n e = cc
+status_write turn.StoreFault n e = cc
+status_write turn.WriteFault n e = refl
+status_write turn.NoMemory n e = cc
+
+pub status_store : (is : Turn) (n : ℕ) → status_by is n ≡ status.StoreFault → is ≡ turn.StoreFault
+status_store turn.More n e = cc
+status_store turn.Ended n e = cc
+status_store turn.Bad n e = cc
+status_store turn.Open n e = cc
+status_store turn.ReadFault n e = cc
+status_store turn.StoreFault n e = refl
+status_store turn.WriteFault n e = cc
+status_store turn.NoMemory n e = cc
+
+pub status_usage : (is : Turn) (n : ℕ) → status_by is n ≢ status.Usage
+status_usage turn.More n e = cc
+status_usage turn.Ended n e = cc
+status_usage turn.Bad n e = cc
+status_usage turn.Open n e = cc
+status_usage turn.ReadFault n e = cc
+status_usage turn.StoreFault n e = cc
+status_usage turn.WriteFault n e = cc
+status_usage turn.NoMemory n e = cc
+
+-- a rise that stays a rise when the file is given back
+pub given_rose : (a n : ℕ) (given : Option ℕ) (now : ℕ) → Rose a (faults_at n given) → GivesBack n given now → Rose a now
+given_rose a n None now r g = omega (arith, r, g)
+given_rose a n (Some m) now r g = let c = g.carried in omega (arith, r, c)
+
+pub only_one : {X : Type 0} (xs : List X) (d : X) → length xs ≡ 1 → xs ≡ get_or xs 0 d ∷ []
+only_one [] d h = absurd (omega arith)
+only_one (x ∷ []) d h = refl
+only_one (x ∷ y ∷ ys) d h = absurd (omega arith)

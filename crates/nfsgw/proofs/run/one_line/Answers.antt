@@ -1,0 +1,52 @@
+use Rattle.std.proofs.Common.{◌≡◌, ◌+◌, [], Some, None, refl, sym, ap, ◌∙◌}
+use Rattle.std.specs.Prelude.{◌==◌}
+use Rattle.std.specs.Option.{option_map}
+use Rattle.nfsgw.specs.Grammar.{line_of as line_of_text}
+use Rattle.nfsgw.specs.Outside.{body_id, body_at, faults_at}
+use Rattle.nfsgw.specs.declared.grammar.Line.TheVariants.{Go, End}
+use Rattle.nfsgw.proofs.Runs.{event_turn, only_read, rests, goes_nowhere, settles_end, settles_bad, settles_long}
+use Rattle.nfsgw.proofs.run.one_line.Goals as goal
+
+pub returns-in-Ok-Some-Go-clause-moves : goal.returns-in-Ok-Some-Go-clause-moves
+returns-in-Ok-Some-Go-clause-moves g c =
+    let r = c.in-Line.ensures.bytes in
+    let is : line_of_text (c.args.before == 0) c.next.new.self.line ≡ Some (Go c.in-Ok-Some-Go.event) = sym (c.in-Ok-Some-Go.ensures ∙ ap (line_of_text (c.args.before == 0)) c.line.ensures) in
+    event_turn g.C.File.AppendFile.tells c.args.world.now c.one_event.new.world (c.args.before == 0) c.args.before c.args.lines.now.pending r.0 c.next.new.self.line c.next.new.self.pending c.in-Ok-Some-Go.event
+    c.requires.few r.2 is c.one_event.result _ _ _ _ _ _ _ _ r.1 c.one_event.ensures.moves
+
+pub returns-in-Ok-Some-End-clause-moves : goal.returns-in-Ok-Some-End-clause-moves
+returns-in-Ok-Some-End-clause-moves g c =
+    let r = c.in-Line.ensures.bytes in
+    let is : line_of_text (c.args.before == 0) c.next.new.self.line ≡ Some End = sym (c.in-Ok-Some-End.ensures ∙ ap (line_of_text (c.args.before == 0)) c.line.ensures) in
+    only_read g.C.File.AppendFile.tells _ _ _ _ _ _ _ _ r.0 r.1 (refl, rests _ _ r.0 refl, settles_end _ _ _ _ c.requires.few r.2 is)
+
+pub returns-in-Ok-None-clause-moves : goal.returns-in-Ok-None-clause-moves
+returns-in-Ok-None-clause-moves g c =
+    let r = c.in-Line.ensures.bytes in
+    let is : line_of_text (c.args.before == 0) c.next.new.self.line ≡ None = sym (c.in-Ok-None.ensures ∙ ap (line_of_text (c.args.before == 0)) c.line.ensures) in
+    only_read g.C.File.AppendFile.tells _ _ _ _ _ _ _ _ r.0 r.1 (refl, rests _ _ r.0 refl, settles_bad _ _ _ _ c.requires.few r.2 is)
+
+pub returns-in-TooLong-clause-moves : goal.returns-in-TooLong-clause-moves
+returns-in-TooLong-clause-moves g c =
+    let r = c.in-TooLong.ensures.bytes in
+    only_read g.C.File.AppendFile.tells _ _ _ _ _ _ _ _ r.0 r.1 (refl, rests _ _ r.0 refl, settles_long _ _ r.2.1)
+
+pub returns-in-AtEnd-clause-moves : goal.returns-in-AtEnd-clause-moves
+returns-in-AtEnd-clause-moves g c =
+    let r = c.in-AtEnd.ensures.bytes in
+    only_read g.C.File.AppendFile.tells _ _ _ _ _ _ _ _ r.0 r.1 (refl, rests _ _ r.0 refl, r.2.1, r.2.2)
+
+pub returns-in-ReadFault-clause-moves : goal.returns-in-ReadFault-clause-moves
+returns-in-ReadFault-clause-moves g c =
+    let r = c.in-ReadFault.ensures.bytes in
+    only_read g.C.File.AppendFile.tells _ _ _ _ _ _ _ _ r.0 r.1 (refl, rests _ _ r.0 refl, r.2.1)
+
+pub returns-in-Line-clause-moves : goal.returns-in-Line-clause-moves
+returns-in-Line-clause-moves g c =
+    let r = c.in-Line.ensures.bytes in
+    only_read g.C.File.AppendFile.tells _ _ _ _ _ _ _ _ r.0 r.1 (goes_nowhere _ r.0)
+
+pub returns-clause-moves : goal.returns-clause-moves
+returns-clause-moves g c =
+    let r = c.in-NoMemory.ensures.bytes in
+    only_read g.C.File.AppendFile.tells _ _ _ _ _ _ _ _ r.0 r.1 (goes_nowhere _ r.0)

@@ -1,0 +1,12 @@
+use Rattle.std.proofs.Common.{◌≡◌}
+use Rattle.std.specs.Option.{option_map}
+use Rattle.nfsgw.specs.Outside.{body_id, body_at, faults_at}
+use Rattle.nfsgw.specs.declared.grammar.Event.TheVariants.{Turn}
+use Rattle.nfsgw.proofs.StepCases.{told_stepped}
+use Rattle.nfsgw.proofs.world.World.step.Goals as goal
+
+pub returns-in-Turn-clause-step : goal.returns-in-Turn-clause-step
+returns-in-Turn-clause-step g c =
+    let s = g.C.Cluster.at c.args.cluster.now body_id in
+    let n = g.C.Cluster.count c.args.cluster.now in
+    rw c.in-Turn.is (told_stepped g.C.File.AppendFile.tells Turn c.turn.result c.told-in-Turn.result _ _ _ _ _ _ c.told-in-Turn.ensures.ok c.told-in-Turn.ensures.err (c.turn.ensures.ok s n) (c.turn.ensures.err s n))

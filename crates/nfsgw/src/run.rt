@@ -1,0 +1,280 @@
+// The top call: a command over a source, a sink and a store.
+ghost use Rattle.std.specs.Prelude.{◌≡◌, ◌≢◌, ◌<◌, ◌≤◌, ◌+◌, ◌==◌, ◌↔◌, None, is_some, map, string_bytes, false, IsTrue};
+ghost use Rattle.std.specs.Option.{option_map};
+ghost use Rattle.gw_outside.specs.Causes.{Rose};
+ghost use Rattle.append_store.specs.State.{IsAway, bytes_of};
+ghost use Rattle.transcript.specs.Script.{max_lines};
+ghost use Rattle.nfsgw.specs.Headline.{IsReplay, Runs};
+ghost use Rattle.nfsgw.specs.Steps.{end_history};
+ghost use Rattle.nfsgw.specs.Outside.{body_id, body_at, faults_at, Safe, Home, IsReady, IsSmall, GivesBack};
+ghost use Rattle.nfsgw.specs.Progress.{Stands, Turns, Ends, IsEventTurn, IsWritten, status_by};
+
+use crate::grammar::{Event, Line, line_of};
+use crate::status::Status;
+use crate::world::{BODY, Stepped, World};
+use append_store::Cluster;
+use gw_outside::{Sink, Source};
+use std::alloc::Global;
+use transcript::{Lines, MAX_LINES, Next, write_all};
+
+/// How a line went.
+#[derive(Clone, Copy, Debug, PartialEq, Eq)]
+pub enum Turn {
+    /// It was done, and the next one comes.
+    More,
+    /// It was the last line.
+    Ended,
+    /// It isn't in the grammar.
+    Bad,
+    /// The source ended before it did.
+    Open,
+    ReadFault,
+    StoreFault,
+    WriteFault,
+    NoMemory,
+}
+
+/// How the lines ended, and how many came before the last.
+#[derive(Clone, Copy)]
+struct Ending {
+    turn: Turn,
+    lines: u64,
+}
+
+/// How the writing of the history went.
+#[derive(Clone, Copy)]
+pub enum Written {
+    Whole,
+    WriteFault,
+    NoMemory,
+}
+
+/// Does one event and writes what it answers.
+fn one_event<K: Sink, C: Cluster>(
+    alloc: Global,
+    event: Event,
+    world: &mut World,
+    sink: &mut K,
+    cluster: &mut C,
+    body: &mut Option<C::File>,
+) -> Turn
+    requires both { is_some body.old ≡ is_some world.old }
+    requires ready { IsReady C.File.tells event (C.at cluster.old body_id) (option_map (λ b. C.File.mark b) body.old) }
+    requires small { IsSmall event }
+    ensures moves { IsEventTurn C.File.tells result event world.old world.new (K.held sink.old) (K.held sink.new)
+        (body_at (C.at cluster.old body_id) (option_map (λ b. C.File.content b) body.old)) (body_at (C.at cluster.new body_id) (option_map (λ b. C.File.content b) body.new))
+        (faults_at (C.count cluster.old) (option_map (λ b. C.File.count b) body.old)) (faults_at (C.count cluster.new) (option_map (λ b. C.File.count b) body.new)) }
+    ensures both_after { result ≡ Turn.More → is_some body.new ≡ is_some world.new }
+    ensures safe { Safe C.File.tells (C.at cluster.new body_id) (option_map (λ b. C.File.mark b) body.new) }
+    ensures home { result ≡ Turn.More → Home C.File.tells (C.at cluster.new body_id) (option_map (λ b. C.File.mark b) body.new) }
+    ensures later { K.count sink.old ≤ K.count sink.new }
+    ensures write_cause { result ≡ Turn.WriteFault → Rose (K.count sink.old) (K.count sink.new) }
+    ensures store_cause { result ≡ Turn.StoreFault → Rose (faults_at (C.count cluster.old) (option_map (λ b. C.File.count b) body.old)) (faults_at (C.count cluster.new) (option_map (λ b. C.File.count b) body.new)) }
+{
+    match world.step(alloc, event, cluster, body) {
+        Stepped::Text(text) => match write_all(sink, text.as_bytes()) {
+            Ok(()) => Turn::More,
+            Err(_) => Turn::WriteFault,
+        },
+        Stepped::StoreFault => Turn::StoreFault,
+        Stepped::NoMemory => Turn::NoMemory,
+    }
+}
+
+/// Reads and does one line, after `before` others.
+fn one_line<S: Source, K: Sink, C: Cluster>(
+    alloc: Global,
+    before: u64,
+    lines: &mut Lines,
+    world: &mut World,
+    source: &mut S,
+    sink: &mut K,
+    cluster: &mut C,
+    body: &mut Option<C::File>,
+) -> Turn
+    requires few { before < max_lines }
+    requires both { is_some body.old ≡ is_some world.old }
+    requires stands { Stands C.File.tells (before == 0) (C.at cluster.old body_id) (option_map (λ b. C.File.mark b) body.old) }
+    ensures moves { Turns C.File.tells result (record { state = world.old; first = before == 0; before = before; pending = lines.old.pending })
+        (record { state = world.new; first = false; before = before + 1; pending = lines.new.pending })
+        (record { left = S.left source.old; held = K.held sink.old; body = body_at (C.at cluster.old body_id) (option_map (λ b. C.File.content b) body.old); faults = faults_at (C.count cluster.old) (option_map (λ b. C.File.count b) body.old) })
+        (record { left = S.left source.new; held = K.held sink.new; body = body_at (C.at cluster.new body_id) (option_map (λ b. C.File.content b) body.new); faults = faults_at (C.count cluster.new) (option_map (λ b. C.File.count b) body.new) }) }
+    ensures both_after { result ≡ Turn.More → is_some body.new ≡ is_some world.new }
+    ensures home { result ≡ Turn.More → Home C.File.tells (C.at cluster.new body_id) (option_map (λ b. C.File.mark b) body.new) }
+    ensures safe { Safe C.File.tells (C.at cluster.new body_id) (option_map (λ b. C.File.mark b) body.new) }
+    ensures source_later { S.count source.old ≤ S.count source.new }
+    ensures sink_later { K.count sink.old ≤ K.count sink.new }
+    ensures read_cause { result ≡ Turn.ReadFault → Rose (S.count source.old) (S.count source.new) }
+    ensures write_cause { result ≡ Turn.WriteFault → Rose (K.count sink.old) (K.count sink.new) }
+    ensures store_cause { result ≡ Turn.StoreFault → Rose (faults_at (C.count cluster.old) (option_map (λ b. C.File.count b) body.old)) (faults_at (C.count cluster.new) (option_map (λ b. C.File.count b) body.new)) }
+{
+    match lines.next(source) {
+        Next::Line => match line_of(alloc, before == 0, lines.line()) {
+            Ok(Some(Line::Go(event))) => one_event(alloc, event, world, sink, cluster, body),
+            Ok(Some(Line::End)) => Turn::Ended,
+            Ok(None) => Turn::Bad,
+            Err(_) => Turn::NoMemory,
+        },
+        Next::TooLong => Turn::Bad,
+        Next::AtEnd => Turn::Open,
+        Next::ReadFault => Turn::ReadFault,
+        Next::NoMemory => Turn::NoMemory,
+    }
+}
+
+/// Reads and does all lines.
+fn all_lines<S: Source, K: Sink, C: Cluster>(
+    alloc: Global,
+    world: &mut World,
+    source: &mut S,
+    sink: &mut K,
+    cluster: &mut C,
+    body: &mut Option<C::File>,
+) -> Ending
+    requires fresh { world.old ≡ None }
+    requires no_body { body.old ≡ None }
+    requires home { Safe C.File.tells (C.at cluster.old body_id) None }
+    ensures moves { Ends C.File.tells result.turn result.lines world.new
+        (record { left = S.left source.old; held = K.held sink.old; body = bytes_of (C.at cluster.old body_id); faults = C.count cluster.old })
+        (record { left = S.left source.new; held = K.held sink.new; body = body_at (C.at cluster.new body_id) (option_map (λ b. C.File.content b) body.new); faults = faults_at (C.count cluster.new) (option_map (λ b. C.File.count b) body.new) }) }
+    ensures few { result.lines ≤ max_lines }
+    ensures safe { Safe C.File.tells (C.at cluster.new body_id) (option_map (λ b. C.File.mark b) body.new) }
+    ensures source_later { S.count source.old ≤ S.count source.new }
+    ensures sink_later { K.count sink.old ≤ K.count sink.new }
+    ensures read_cause { result.turn ≡ Turn.ReadFault → Rose (S.count source.old) (S.count source.new) }
+    ensures write_cause { result.turn ≡ Turn.WriteFault → Rose (K.count sink.old) (K.count sink.new) }
+    ensures store_cause { result.turn ≡ Turn.StoreFault → Rose (C.count cluster.old) (faults_at (C.count cluster.new) (option_map (λ b. C.File.count b) body.new)) }
+{
+    let mut lines = Lines::new(alloc);
+    for before in 0..MAX_LINES {
+        match one_line(
+            alloc, before, &mut lines, world, source, sink, cluster, body,
+        ) {
+            Turn::More => {}
+            turn => return Ending {
+                turn,
+                lines: before,
+            },
+        }
+    }
+    Ending {
+        turn: Turn::Bad,
+        lines: MAX_LINES,
+    }
+}
+
+/// Gives the body back to the store, if it was taken.
+fn give_back<C: Cluster>(cluster: &mut C, body: Option<C::File>)
+    requires safe { Safe C.File.tells (C.at cluster.old body_id) (option_map (λ b. C.File.mark b) body) }
+    ensures bytes { C.File.tells → bytes_of (C.at cluster.new body_id) ≡ body_at (C.at cluster.old body_id) (option_map (λ b. C.File.content b) body) }
+    ensures home { C.File.tells → IsAway (C.at cluster.new body_id) → ⊥ }
+    ensures count { GivesBack (C.count cluster.old) (option_map (λ b. C.File.count b) body) (C.count cluster.new) }
+{
+    if let Some(file) = body {
+        cluster.give_file(BODY, file);
+    }
+}
+
+/// Writes the history of the open file.
+fn write_history<K: Sink>(alloc: Global, world: &World, sink: &mut K) -> Written
+    ensures text { IsWritten result (end_history world.now) (K.held sink.old) (K.held sink.new) }
+    ensures later { K.count sink.old ≤ K.count sink.new }
+    ensures cause { result ≡ Written.WriteFault → Rose (K.count sink.old) (K.count sink.new) }
+{
+    let Ok(text) = world.history(alloc) else {
+        return Written::NoMemory;
+    };
+    match write_all(sink, text.as_bytes()) {
+        Ok(()) => Written::Whole,
+        Err(_) => Written::WriteFault,
+    }
+}
+
+/// The status, where the history was written whole.
+fn status_of(turn: Turn, lines: u64) -> Status
+    requires { lines ≤ max_lines }
+    ensures { result ≡ status_by turn lines }
+{
+    match turn {
+        Turn::Ended => Status::Done,
+        Turn::Bad | Turn::Open => Status::BadLine(lines + 1),
+        Turn::ReadFault => Status::ReadFault,
+        Turn::StoreFault => Status::StoreFault,
+        Turn::WriteFault => Status::WriteFault,
+        Turn::More | Turn::NoMemory => Status::NoMemory,
+    }
+}
+
+/// Replays a transcript.
+fn replay<S: Source, K: Sink, C: Cluster>(
+    alloc: Global,
+    source: &mut S,
+    sink: &mut K,
+    cluster: &mut C,
+) -> Status
+    requires safe { Safe C.File.tells (C.at cluster.old body_id) None }
+    ensures run { Runs C.File.tells result
+        (record { left = S.left source.old; held = K.held sink.old; body = bytes_of (C.at cluster.old body_id); faults = C.count cluster.old })
+        (record { left = S.left source.new; held = K.held sink.new; body = bytes_of (C.at cluster.new body_id); faults = C.count cluster.new }) }
+    ensures home { C.File.tells → IsAway (C.at cluster.new body_id) → ⊥ }
+    ensures read_cause { result ≡ Status.ReadFault → Rose (S.count source.old) (S.count source.new) }
+    ensures write_cause { result ≡ Status.WriteFault → Rose (K.count sink.old) (K.count sink.new) }
+    ensures store_cause { result ≡ Status.StoreFault → Rose (C.count cluster.old) (C.count cluster.new) }
+    ensures not_usage { result ≢ Status.Usage }
+{
+    let mut world = World::new();
+    let mut body = None;
+    let ending = all_lines(alloc, &mut world, source, sink, cluster, &mut body);
+    give_back(cluster, body);
+    match ending.turn {
+        Turn::StoreFault | Turn::WriteFault | Turn::NoMemory => {
+            return status_of(ending.turn, ending.lines);
+        }
+        _ => {}
+    }
+    match write_history(alloc, &world, sink) {
+        Written::Whole => status_of(ending.turn, ending.lines),
+        Written::WriteFault => Status::WriteFault,
+        Written::NoMemory => Status::NoMemory,
+    }
+}
+
+/// Whether the words are those of the one command.
+fn is_replay(words: &Vec<String>) -> bool
+    ensures { IsTrue result ↔ IsReplay (map string_bytes words.now.items) }
+{
+    words.len() == 1 && words[0].as_str() == "replay"
+}
+
+/// Runs the command that the words name; they don't include the program's name.
+///
+/// `replay` replays the transcript that the source hands out over the store, and writes what the sequential definition
+/// says to the sink. It returns for every source, one without end too, and takes memory.
+pub fn run_command<S: Source, K: Sink, C: Cluster>(
+    alloc: Global,
+    words: &Vec<String>,
+    source: &mut S,
+    sink: &mut K,
+    cluster: &mut C,
+) -> Status
+    // The body isn't out.
+    requires safe { C.File.tells → IsAway (C.at cluster.old body_id) → ⊥ }
+    // What was read, written and stored, by the status.
+    ensures run { Runs C.File.tells result
+        (record { left = S.left source.old; held = K.held sink.old; body = bytes_of (C.at cluster.old body_id); faults = C.count cluster.old })
+        (record { left = S.left source.new; held = K.held sink.new; body = bytes_of (C.at cluster.new body_id); faults = C.count cluster.new }) }
+    // The body isn't out afterwards.
+    ensures home { C.File.tells → IsAway (C.at cluster.new body_id) → ⊥ }
+    // The words are refused exactly where they are no command.
+    ensures usage { (result ≡ Status.Usage) ↔ ¬ (IsReplay (map string_bytes words.now.items)) }
+    // A fault is answered only where that object's count rose.
+    ensures read_cause { result ≡ Status.ReadFault → Rose (S.count source.old) (S.count source.new) }
+    ensures write_cause { result ≡ Status.WriteFault → Rose (K.count sink.old) (K.count sink.new) }
+    ensures store_cause { result ≡ Status.StoreFault → Rose (C.count cluster.old) (C.count cluster.new) }
+{
+    if is_replay(words) {
+        replay(alloc, source, sink, cluster)
+    } else {
+        Status::Usage
+    }
+}
