@@ -82,56 +82,56 @@ scan_whole left joined at n all s some e l c t =
     let whole : front all ≡ Whole (s.have ++ body bytes) (behind bytes) = s.so_far ∙ whole_last left (left - 1) s.have bytes (omega arith) there (rw sum l) (last_is bytes t) in
     (omega (arith, s.within), (s.have ++ body bytes, whole ∙ ap (λ (k : List ℕ). Whole (s.have ++ body bytes) k) (behind_at at n all e)))
 
--- The join of one record: what must hold at a header where the record is whole and nothing follows it.
-pub record Joining (left : ℕ) (have rest : List ℕ) (all : List ℕ) : Type 0 where
-  pub so_far : front all ≡ front_from left have rest
+-- The join of one record: what holds at a header where the record is whole, and `after` follows it.
+pub record Joining (left : ℕ) (have rest : List ℕ) (f : Front) (after : List ℕ) : Type 0 where
+  pub so_far : f ≡ front_from left have rest
   pub whole : List ℕ
-  pub ends : front all ≡ Whole whole []
+  pub ends : f ≡ Whole whole after
 
-pub some_header : (left : ℕ) (have rest all : List ℕ) → Joining left have rest all → 4 ≤ length rest
-some_header left have rest all j = go (cases_lt (length rest) 4) where
+pub some_header : (left : ℕ) (have rest : List ℕ) (f : Front) (after : List ℕ) → Joining left have rest f after → 4 ≤ length rest
+some_header left have rest f after j = go (cases_lt (length rest) 4) where
   go : (length rest < 4) ⊎ (4 ≤ length rest) → 4 ≤ length rest
   go (inl h) = let e = sym j.so_far ∙ j.ends in let o = open_short left have rest h in absurd (cc)
   go (inr h) = h
 
-pub some_left : (left : ℕ) (have rest all : List ℕ) → Joining left have rest all → 0 < left
-some_left zero have rest all j = let e = sym j.so_far ∙ j.ends in let o = too_many have rest (some_header 0 have rest all j) in absurd (cc)
-some_left (suc left) have rest all j = omega arith
+pub some_left : (left : ℕ) (have rest : List ℕ) (f : Front) (after : List ℕ) → Joining left have rest f after → 0 < left
+some_left zero have rest f after j = let e = sym j.so_far ∙ j.ends in let o = too_many have rest (some_header 0 have rest f after j) in absurd (cc)
+some_left (suc left) have rest f after j = omega arith
 
-pub some_room : (left : ℕ) (have rest all : List ℕ) → Joining left have rest all → length have + fragment_len rest ≤ record_max
-some_room left have rest all j = go (cases_lt record_max (length have + fragment_len rest)) where
+pub some_room : (left : ℕ) (have rest : List ℕ) (f : Front) (after : List ℕ) → Joining left have rest f after → length have + fragment_len rest ≤ record_max
+some_room left have rest f after j = go (cases_lt record_max (length have + fragment_len rest)) where
   go : (record_max < length have + fragment_len rest) ⊎ (length have + fragment_len rest ≤ record_max) → length have + fragment_len rest ≤ record_max
   go (inl h) =
-    let some = some_left left have rest all j in
+    let some = some_left left have rest f after j in
     let e = sym j.so_far ∙ j.ends in
-    let o = too_long left (left - 1) have rest (omega arith) (some_header left have rest all j) h in
+    let o = too_long left (left - 1) have rest (omega arith) (some_header left have rest f after j) h in
     absurd (cc)
   go (inr h) = h
 
-pub some_body : (left : ℕ) (have rest all : List ℕ) → Joining left have rest all → 4 + fragment_len rest ≤ length rest
-some_body left have rest all j = go (cases_lt (length rest) (4 + fragment_len rest)) where
+pub some_body : (left : ℕ) (have rest : List ℕ) (f : Front) (after : List ℕ) → Joining left have rest f after → 4 + fragment_len rest ≤ length rest
+some_body left have rest f after j = go (cases_lt (length rest) (4 + fragment_len rest)) where
   go : (length rest < 4 + fragment_len rest) ⊎ (4 + fragment_len rest ≤ length rest) → 4 + fragment_len rest ≤ length rest
   go (inl h) =
-    let some = some_left left have rest all j in
+    let some = some_left left have rest f after j in
     let e = sym j.so_far ∙ j.ends in
-    let o = open_cut left (left - 1) have rest (omega arith) (some_header left have rest all j) (some_room left have rest all j) h in
+    let o = open_cut left (left - 1) have rest (omega arith) (some_header left have rest f after j) (some_room left have rest f after j) h in
     absurd (cc)
   go (inr h) = h
 
-pub join_last : (left : ℕ) (have rest all : List ℕ) → Joining left have rest all → 2 ^ 31 ≤ header rest → front all ≡ Whole (have ++ body rest) []
-join_last left have rest all j h =
-    let some = some_left left have rest all j in
-    let e : front all ≡ Whole (have ++ body rest) (behind rest) = j.so_far ∙ whole_last left (left - 1) have rest (omega arith) (some_body left have rest all j) (some_room left have rest all j) (last_is rest h) in
-    let same : Whole (have ++ body rest) (behind rest) ≡ Whole j.whole [] = sym e ∙ j.ends in
-    let none : behind rest ≡ [] = cc in
-    e ∙ ap (λ (k : List ℕ). Whole (have ++ body rest) k) none
+pub join_last : (left : ℕ) (have rest : List ℕ) (f : Front) (after : List ℕ) → Joining left have rest f after → is_last rest ≡ true → (f ≡ Whole (have ++ body rest) after) × (behind rest ≡ after)
+join_last left have rest f after j t =
+    let some = some_left left have rest f after j in
+    let e : f ≡ Whole (have ++ body rest) (behind rest) = j.so_far ∙ whole_last left (left - 1) have rest (omega arith) (some_body left have rest f after j) (some_room left have rest f after j) t in
+    let same : Whole (have ++ body rest) (behind rest) ≡ Whole j.whole after = sym e ∙ j.ends in
+    let none : behind rest ≡ after = cc in
+    (e ∙ ap (λ (k : List ℕ). Whole (have ++ body rest) k) none, none)
 
-pub join_more : (left : ℕ) (have rest all : List ℕ) → Joining left have rest all → header rest < 2 ^ 31 → Joining (left - 1) (have ++ body rest) (behind rest) all
-join_more left have rest all j h =
-    let some = some_left left have rest all j in
-    record { so_far = j.so_far ∙ front_more left (left - 1) have rest (omega arith) (some_body left have rest all j) (some_room left have rest all j) (not_last_is rest h); whole = j.whole; ends = j.ends }
+pub join_more : (left : ℕ) (have rest : List ℕ) (f : Front) (after : List ℕ) → Joining left have rest f after → is_last rest ≡ false → Joining (left - 1) (have ++ body rest) (behind rest) f after
+join_more left have rest f after j t =
+    let some = some_left left have rest f after j in
+    record { so_far = j.so_far ∙ front_more left (left - 1) have rest (omega arith) (some_body left have rest f after j) (some_room left have rest f after j) t; whole = j.whole; ends = j.ends }
 
-pub join_start : (all whole : List ℕ) → front all ≡ Whole whole [] → Joining 64 [] all all
+pub join_start : (all whole : List ℕ) → front all ≡ Whole whole [] → Joining 64 [] all (front all) []
 unfolding front
 join_start all whole e = record { so_far = refl; whole = whole; ends = e }
 

@@ -65,7 +65,7 @@ pub record Records : Type 0 where
   pub whole : List (List ℕ)
   pub end : End
 
-abbrev then_record : List ℕ → Records → Records
+abbrev pub then_record : List ℕ → Records → Records
 then_record r rs = record { whole = r ∷ rs.whole; end = rs.end }
 
 -- each record has at least four bytes, so the stream has at most as many records as bytes
@@ -81,14 +81,16 @@ records_from (suc fuel) bytes = elim (front bytes) [
 unfoldable pub records : List ℕ → Records
 records bytes = records_from (length bytes) bytes
 
--- These bytes are the fragments of a record, up to its last one: `have` was joined before.
+-- These bytes are fragments up to a last one, each a word and as many bytes as it says: `have` was joined before.
 abbrev pub SpellsFrom : ℕ → List ℕ → List ℕ → List ℕ → Type 0
 SpellsFrom zero have text joined = ⊥
 SpellsFrom (suc left) have text joined =
-    (4 + fragment_len text ≤ length text)
-    × (length have + fragment_len text ≤ record_max)
-    × (elim (is_last text) [ true ↦ (behind text ≡ []) × (joined ≡ have ++ body text) | false ↦ SpellsFrom left (have ++ body text) (behind text) joined ])
+    (fragment : List ℕ) × (more : List ℕ)
+    × (text ≡ fragment ++ more)
+    × (length fragment ≡ 4 + fragment_len fragment)
+    × (length have + fragment_len fragment ≤ record_max)
+    × (elim (is_last fragment) [ true ↦ (more ≡ []) × (joined ≡ have ++ drop 4 fragment) | false ↦ SpellsFrom left (have ++ drop 4 fragment) more joined ])
 
--- these bytes are the fragments of this record: the join of at most 64 fragments, with at most 1,052,672 bytes
+-- these bytes spell this record: the join of at most 64 fragments, with at most 1,052,672 bytes
 unfoldable pub SpellsRecord : List ℕ → List ℕ → Type 0
 SpellsRecord text joined = SpellsFrom fragments_max [] text joined

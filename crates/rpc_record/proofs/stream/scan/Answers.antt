@@ -11,13 +11,13 @@ pub returns-in_default : goal.returns-in_default
 returns-in_default c = scan_short _ _ _ _ c.loop-header.invariant.1 c.in_default.ensures.short
 
 pub returns-then-left-eq0 : goal.returns-then-left-eq0
-returns-then-left-eq0 c = scan_many _ _ _ _ c.loop-header.invariant.1 c.if-left-eq0.true c.in-Some.ensures.there
+returns-then-left-eq0 c = (scan_many _ _ _ _ c.loop-header.invariant.1 c.if-left-eq0.true c.in-Some.ensures.there, λ e. cc)
 
 pub returns-then-joined-gt-LONGEST_RECORD : goal.returns-then-joined-gt-LONGEST_RECORD
 returns-then-joined-gt-LONGEST_RECORD c =
     let all = c.args.held.now ++ c.args.piece.now in
     let len : fragment_len (drop c.loop-header.at all) ≡ c.in-Some.header % 2 ^ 31 = ap (λ (k : ℕ). k % 2 ^ 31) (sym c.in-Some.ensures.value) in
-    scan_long _ _ _ _ all c.loop-header.invariant.1 (omega arith) c.in-Some.ensures.there len c.if-joined-gt-LONGEST_RECORD.true
+    (scan_long _ _ _ _ all c.loop-header.invariant.1 (omega arith) c.in-Some.ensures.there len c.if-joined-gt-LONGEST_RECORD.true, λ e. cc)
 
 pub returns-then-total-at : goal.returns-then-total-at
 returns-then-total-at c =
