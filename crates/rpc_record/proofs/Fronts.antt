@@ -1,11 +1,11 @@
 -- The first record of a stream is spelled by its front, and more bytes behind a decided front change nothing.
-use Rattle.std.proofs.Common.{◌⊎◌, inl, inr, ◌≡◌, ℕ, zero, suc, ◌+◌, ◌-◌, ◌%◌, ◌^◌, ◌<◌, ◌≤◌, nat_le, Bool, true, false, List, [], ◌∷◌, ◌++◌, length, take, drop, refl, sym, ap, ◌∙◌, subst, arith, add-one, length-append, length-drop, append_assoc, append-nil}
+use Rattle.std.proofs.Common.{◌⊎◌, inl, inr, ◌≡◌, ℕ, zero, suc, ◌+◌, ◌-◌, ◌%◌, ◌^◌, ◌<◌, ◌≤◌, nat_le, Bool, true, false, List, [], ◌++◌, length, take, drop, refl, sym, ap, ◌∙◌, subst, arith, add-one, length-append, length-drop, append_assoc, append-nil}
 use Rattle.std.specs.Int.{w32, from_be_bytes}
 use Rattle.std.proofs.lemmas.Bool.{cases_lt}
 use Rattle.std.proofs.lemmas.List.{take-append-drop, length-take-le, take-append-le, drop-append-le}
 use Rattle.std.proofs.Math.Seq.{take-append_seam, drop-append_seam}
 use Rattle.rpc_record.specs.declared.fault.FrameFault.{FrameFault}
-use Rattle.rpc_record.specs.declared.fault.FrameFault.TheVariants.{TooLong, TooMany}
+use Rattle.rpc_record.specs.declared.fault.FrameFault.TheVariants.{TooLong}
 use Rattle.rpc_record.specs.Records.{record_max, header, fragment_len, is_last, body, behind, Front, Open, Fault, Whole, front, front_from, SpellsFrom, SpellsRecord}
 use Rattle.rpc_record.proofs.Steps.{open_short, too_many, too_long, open_cut, whole_last, front_more}
 use Rattle.rpc_record.proofs.Scanning.{Joining, some_left, some_room, some_body, join_last, join_more}
@@ -89,25 +89,30 @@ forth_step : (left : ℕ) → Forth left → (have xs joined rest : List ℕ) �
 forth_step left ih have xs joined rest e = go (is_last xs) refl where
   f : Front
   f = front_from (suc left) have xs
+
   j : Joining (suc left) have xs f rest
   j = record { so_far = refl; whole = joined; ends = e }
+
   room : length have + fragment_len xs ≤ record_max
   room = some_room (suc left) have xs f rest j
+
   c : Cut xs
   c = cut_front xs (some_body (suc left) have xs f rest j)
+
   less : suc left - 1 ≡ left
   less = omega arith
+
   go : (b : Bool) → is_last xs ≡ b → Spelled (suc left) have xs joined rest
   go true t =
-    let l = join_last (suc left) have xs f rest j t in
-    let same : Whole joined rest ≡ Whole (have ++ body xs) rest = sym e ∙ l.0 in
-    let is : joined ≡ have ++ body xs = cc in
-    record { text = c.fragment; parts = c.whole ∙ ap (λ (k : List ℕ). c.fragment ++ k) l.1; spelled = spell_last left have xs joined c room t is; four = let s = c.size in omega arith }
+      let l = join_last (suc left) have xs f rest j t in
+      let same : Whole joined rest ≡ Whole (have ++ body xs) rest = sym e ∙ l.0 in
+      let is : joined ≡ have ++ body xs = cc in
+      record { text = c.fragment; parts = c.whole ∙ ap (λ (k : List ℕ). c.fragment ++ k) l.1; spelled = spell_last left have xs joined c room t is; four = let s = c.size in omega arith }
   go false t =
-    let m = join_more (suc left) have xs f rest j t in
-    let next : front_from left (have ++ body xs) (behind xs) ≡ Whole joined rest = ap (λ (k : ℕ). front_from k (have ++ body xs) (behind xs)) (sym less) ∙ sym m.so_far ∙ e in
-    let s = ih (have ++ body xs) (behind xs) joined rest next in
-    record { text = c.fragment ++ s.text; parts = c.whole ∙ ap (λ (k : List ℕ). c.fragment ++ k) s.parts ∙ sym (append_assoc c.fragment s.text rest); spelled = spell_more left have xs joined s.text c room t s.spelled; four = let z = c.size in omega (arith, length-append c.fragment s.text) }
+      let m = join_more (suc left) have xs f rest j t in
+      let next : front_from left (have ++ body xs) (behind xs) ≡ Whole joined rest = ap (λ (k : ℕ). front_from k (have ++ body xs) (behind xs)) (sym less) ∙ sym m.so_far ∙ e in
+      let s = ih (have ++ body xs) (behind xs) joined rest next in
+      record { text = c.fragment ++ s.text; parts = c.whole ∙ ap (λ (k : List ℕ). c.fragment ++ k) s.parts ∙ sym (append_assoc c.fragment s.text rest); spelled = spell_more left have xs joined s.text c room t s.spelled; four = let z = c.size in omega (arith, length-append c.fragment s.text) }
 
 pub spelled_forth : (left : ℕ) (have xs joined rest : List ℕ) → front_from left have xs ≡ Whole joined rest → Spelled left have xs joined rest
 spelled_forth zero have xs joined rest e =
@@ -124,29 +129,37 @@ back_step : (left : ℕ) → Back left → (have text joined ys : List ℕ) → 
 back_step left ih have text joined ys s = go (is_last fragment) refl s.5 where
   fragment : List ℕ
   fragment = s.0
+
   more : List ℕ
   more = s.1
+
   tail : List ℕ
   tail = more ++ ys
+
   all : text ++ ys ≡ fragment ++ tail
   all = ap (λ (k : List ℕ). k ++ ys) s.2 ∙ append_assoc fragment more ys
+
   four : 4 ≤ length fragment
   four = let e = s.3 in omega arith
+
   len : fragment_len (fragment ++ tail) ≡ fragment_len fragment
   len = len_front fragment tail four
+
   fits : 4 + fragment_len (fragment ++ tail) ≤ length (fragment ++ tail)
   fits = let e = s.3 in rw len (omega (arith, length-append fragment tail))
+
   room : length have + fragment_len (fragment ++ tail) ≤ record_max
   room = rw len s.4
+
   go : (b : Bool) → is_last fragment ≡ b → next_of b left have fragment more joined → front_from (suc left) have (text ++ ys) ≡ Whole joined ys
   go true t n =
-    let w = whole_last (suc left) left have (fragment ++ tail) (sym (add-one left)) fits room (last_front fragment tail four ∙ t) in
-    let joins : have ++ body (fragment ++ tail) ≡ joined = ap (λ (k : List ℕ). have ++ k) (body_of fragment tail s.3) ∙ sym n.1 in
-    let rests : behind (fragment ++ tail) ≡ ys = behind_of fragment tail s.3 ∙ ap (λ (k : List ℕ). k ++ ys) n.0 in
-    ap (λ (k : List ℕ). front_from (suc left) have k) all ∙ w ∙ ap (λ (k : List ℕ). Whole k (behind (fragment ++ tail))) joins ∙ ap (λ (k : List ℕ). Whole joined k) rests
+      let w = whole_last (suc left) left have (fragment ++ tail) (sym (add-one left)) fits room (last_front fragment tail four ∙ t) in
+      let joins : have ++ body (fragment ++ tail) ≡ joined = ap (λ (k : List ℕ). have ++ k) (body_of fragment tail s.3) ∙ sym n.1 in
+      let rests : behind (fragment ++ tail) ≡ ys = behind_of fragment tail s.3 ∙ ap (λ (k : List ℕ). k ++ ys) n.0 in
+      ap (λ (k : List ℕ). front_from (suc left) have k) all ∙ w ∙ ap (λ (k : List ℕ). Whole k (behind (fragment ++ tail))) joins ∙ ap (λ (k : List ℕ). Whole joined k) rests
   go false t n =
-    let w = front_more (suc left) left have (fragment ++ tail) (sym (add-one left)) fits room (last_front fragment tail four ∙ t) in
-    ap (λ (k : List ℕ). front_from (suc left) have k) all ∙ w ∙ ap (λ (k : List ℕ). front_from left (have ++ k) (behind (fragment ++ tail))) (body_of fragment tail s.3) ∙ ap (λ (k : List ℕ). front_from left (have ++ drop 4 fragment) k) (behind_of fragment tail s.3) ∙ ih (have ++ drop 4 fragment) more joined ys n
+      let w = front_more (suc left) left have (fragment ++ tail) (sym (add-one left)) fits room (last_front fragment tail four ∙ t) in
+      ap (λ (k : List ℕ). front_from (suc left) have k) all ∙ w ∙ ap (λ (k : List ℕ). front_from left (have ++ k) (behind (fragment ++ tail))) (body_of fragment tail s.3) ∙ ap (λ (k : List ℕ). front_from left (have ++ drop 4 fragment) k) (behind_of fragment tail s.3) ∙ ih (have ++ drop 4 fragment) more joined ys n
 
 pub spelled_back : (left : ℕ) (have text joined ys : List ℕ) → SpellsFrom left have text joined → front_from left have (text ++ ys) ≡ Whole joined ys
 spelled_back zero have text joined ys s = absurd s
@@ -181,24 +194,28 @@ fault_step : (left : ℕ) → Faulted left → (have xs ys : List ℕ) (fault : 
 fault_step left ih have xs ys fault e = header_there (cases_lt (length xs) 4) where
   one : suc left ≡ left + 1
   one = sym (add-one left)
+
   body_there : 4 ≤ length xs → length have + fragment_len xs ≤ record_max → 4 + fragment_len xs ≤ length xs → (b : Bool) → is_last xs ≡ b → front_from (suc left) have (xs ++ ys) ≡ Fault fault
   body_there h r f true t = let w = whole_last (suc left) left have xs one f r t in absurd (cc)
   body_there h r f false t =
-    let m = front_more (suc left) left have xs one f r t in
-    let fits : 4 + fragment_len (xs ++ ys) ≤ length (xs ++ ys) = rw (len_front xs ys h) (omega (arith, length-append xs ys)) in
-    let room : length have + fragment_len (xs ++ ys) ≤ record_max = rw (len_front xs ys h) r in
-    front_more (suc left) left have (xs ++ ys) one fits room (last_front xs ys h ∙ t)
-    ∙ ap (λ (k : List ℕ). front_from left (have ++ k) (behind (xs ++ ys))) (body_front xs ys f)
-    ∙ ap (λ (k : List ℕ). front_from left (have ++ body xs) k) (behind_front xs ys f)
-    ∙ ih (have ++ body xs) (behind xs) ys fault (sym m ∙ e)
+      let m = front_more (suc left) left have xs one f r t in
+      let fits : 4 + fragment_len (xs ++ ys) ≤ length (xs ++ ys) = rw (len_front xs ys h) (omega (arith, length-append xs ys)) in
+      let room : length have + fragment_len (xs ++ ys) ≤ record_max = rw (len_front xs ys h) r in
+      front_more (suc left) left have (xs ++ ys) one fits room (last_front xs ys h ∙ t)
+      ∙ ap (λ (k : List ℕ). front_from left (have ++ k) (behind (xs ++ ys))) (body_front xs ys f)
+      ∙ ap (λ (k : List ℕ). front_from left (have ++ body xs) k) (behind_front xs ys f)
+      ∙ ih (have ++ body xs) (behind xs) ys fault (sym m ∙ e)
+
   all_there : 4 ≤ length xs → length have + fragment_len xs ≤ record_max → (length xs < 4 + fragment_len xs) ⊎ (4 + fragment_len xs ≤ length xs) → front_from (suc left) have (xs ++ ys) ≡ Fault fault
   all_there h r (inl c) = let o = open_cut (suc left) left have xs one h r c in absurd (cc)
   all_there h r (inr f) = body_there h r f (is_last xs) refl
+
   room_there : 4 ≤ length xs → (record_max < length have + fragment_len xs) ⊎ (length have + fragment_len xs ≤ record_max) → front_from (suc left) have (xs ++ ys) ≡ Fault fault
   room_there h (inl l) =
-    let same = too_long (suc left) left have xs one h l in
-    too_long (suc left) left have (xs ++ ys) one (omega (arith, length-append xs ys)) (rw (len_front xs ys h) l) ∙ ap (λ (k : ℕ). Fault (TooLong (length have + k))) (len_front xs ys h) ∙ sym same ∙ e
+      let same = too_long (suc left) left have xs one h l in
+      too_long (suc left) left have (xs ++ ys) one (omega (arith, length-append xs ys)) (rw (len_front xs ys h) l) ∙ ap (λ (k : ℕ). Fault (TooLong (length have + k))) (len_front xs ys h) ∙ sym same ∙ e
   room_there h (inr r) = all_there h r (cases_lt (length xs) (4 + fragment_len xs))
+
   header_there : (length xs < 4) ⊎ (4 ≤ length xs) → front_from (suc left) have (xs ++ ys) ≡ Fault fault
   header_there (inl h) = let o = open_short (suc left) have xs h in absurd (cc)
   header_there (inr h) = room_there h (cases_lt record_max (length have + fragment_len xs))
@@ -237,11 +254,12 @@ pub open_before : (xs ys joined rest : List ℕ) → front xs ≡ Open → front
 open_before xs ys joined rest o e = go (cases_lt (length ys) (length rest)) where
   s : Spelled 64 [] (xs ++ ys) joined rest
   s = front_forth (xs ++ ys) joined rest e
+
   go : (length ys < length rest) ⊎ (length rest ≤ length ys) → length rest ≤ length ys
   go (inr h) = h
   go (inl h) =
-    let n : length s.text ≤ length xs = omega (arith, ap length s.parts, length-append s.text rest, length-append xs ys) in
-    let t : s.text ≡ take (length s.text) xs = sym (take-append_seam s.text rest) ∙ ap (λ (k : List ℕ). take (length s.text) k) (sym s.parts) ∙ take-append-le (length s.text) xs ys n in
-    let w : xs ≡ s.text ++ drop (length s.text) xs = sym (take-append-drop (length s.text) xs) ∙ ap (λ (k : List ℕ). k ++ drop (length s.text) xs) (sym t) in
-    let b : front xs ≡ Whole joined (drop (length s.text) xs) = ap front w ∙ front_back s.text joined (drop (length s.text) xs) s.spelled in
-    absurd (cc)
+      let n : length s.text ≤ length xs = omega (arith, ap length s.parts, length-append s.text rest, length-append xs ys) in
+      let t : s.text ≡ take (length s.text) xs = sym (take-append_seam s.text rest) ∙ ap (λ (k : List ℕ). take (length s.text) k) (sym s.parts) ∙ take-append-le (length s.text) xs ys n in
+      let w : xs ≡ s.text ++ drop (length s.text) xs = sym (take-append-drop (length s.text) xs) ∙ ap (λ (k : List ℕ). k ++ drop (length s.text) xs) (sym t) in
+      let b : front xs ≡ Whole joined (drop (length s.text) xs) = ap front w ∙ front_back s.text joined (drop (length s.text) xs) s.spelled in
+      absurd (cc)

@@ -1,9 +1,9 @@
 -- A piece, whatever was taken before.
-use Rattle.std.proofs.Common.{◌≡◌, ℕ, ◌+◌, ◌-◌, ◌≤◌, List, [], ◌∷◌, ◌++◌, length, take, drop, refl, sym, ap, ◌∙◌, subst, arith, length-append, length-drop, append_assoc, append-nil, Option, Some, None, Result, Ok, Err}
-use Rattle.std.proofs.Math.Seq.{take-append-add, take-append_seam}
+use Rattle.std.proofs.Common.{◌≡◌, ℕ, ◌+◌, ◌-◌, ◌≤◌, List, [], ◌∷◌, ◌++◌, length, take, drop, refl, sym, ap, ◌∙◌, subst, arith, length-append, length-drop, append-nil, Option, Some, None, Result, Ok, Err}
+use Rattle.std.proofs.Math.Seq.{take-append-add}
 use Rattle.rpc_record.specs.declared.fault.FrameFault.{FrameFault}
-use Rattle.rpc_record.specs.Records.{Front, Open, Fault, Whole, front, End, Rest, Broken, Records, then_record, records}
-use Rattle.rpc_record.specs.Assembly.{Assembly, empty, Fed, by_front, fed_after, fed, ready_records, end_of, Stands}
+use Rattle.rpc_record.specs.Records.{Front, Open, Fault, Whole, front, Rest, Broken, Records, then_record, records}
+use Rattle.rpc_record.specs.Assembly.{Assembly, empty, Fed, by_front, fed_after, fed, ready_records, Stands}
 use Rattle.rpc_record.proofs.Fronts.{front_empty, whole_cut, open_before, take_all}
 use Rattle.rpc_record.proofs.Streams.{records_open, records_fault, records_whole, goes_on, rest_open, stays_broken}
 
@@ -67,7 +67,7 @@ taken_step given bytes piece held t count s Open e h =
     let all : bytes ++ take count piece ≡ bytes ++ piece = ap (λ (k : List ℕ). bytes ++ k) (take_all count piece p.0) in
     let r = records_open (held ++ piece) e in
     let stands : Stands given (bytes ++ piece) (resting (held ++ piece)) =
-      record { whole = whole_after given bytes piece held s.whole s.end ∙ ap (λ (k : Records). given ++ k.whole) r; end = end_after bytes piece held s.end ∙ ap (λ (k : Records). k.end) r } in
+    record { whole = whole_after given bytes piece held s.whole s.end ∙ ap (λ (k : Records). given ++ k.whole) r; end = end_after bytes piece held s.end ∙ ap (λ (k : Records). k.end) r } in
     (omega (arith, p.0), subst (λ (k : Assembly). Stands given (bytes ++ take count piece) k) p.1 (subst (λ (k : List ℕ). Stands given k (resting (held ++ piece))) (sym all) stands))
 taken_step given bytes piece held t count s (Fault fault) e h = absurd (err_not_ok count fault _ t h)
 taken_step given bytes piece held t count s (Whole joined rest) e h =
@@ -80,7 +80,7 @@ taken_step given bytes piece held t count s (Whole joined rest) e h =
     let nothing = records_open [] front_empty in
     let r : records (held ++ part) ≡ record { whole = joined ∷ []; end = Rest [] } = records_whole (held ++ part) joined [] alone.1 ∙ ap (λ (k : Records). then_record joined k) nothing in
     let stands : Stands given (bytes ++ part) after =
-      record { whole = whole_after given bytes part held s.whole s.end ∙ ap (λ (k : Records). given ++ k.whole) r; end = end_after bytes part held s.end ∙ ap (λ (k : Records). k.end) r } in
+    record { whole = whole_after given bytes part held s.whole s.end ∙ ap (λ (k : Records). given ++ k.whole) r; end = end_after bytes part held s.end ∙ ap (λ (k : Records). k.end) r } in
     (omega (arith, p.0), subst (λ (k : Assembly). Stands given (bytes ++ take count piece) k) p.1 (subst (λ (k : ℕ). Stands given (bytes ++ take k piece) after) p.0 stands))
 
 fault_step : (given : List (List ℕ)) (bytes piece held : List ℕ) (t : Assembly) (fault : FrameFault) → Stands given bytes (resting held) → (f : Front) → front (held ++ piece) ≡ f → by_front (resting held) piece f ≡ of_fed (Err fault) t
@@ -93,7 +93,7 @@ fault_step given bytes piece held t fault s (Fault other) e h =
     let r = records_fault (held ++ piece) other e in
     let ends : (records (bytes ++ piece)).end ≡ Broken other = end_after bytes piece held s.end ∙ ap (λ (k : Records). k.end) r in
     let stands : Stands given (bytes ++ piece) after =
-      record { whole = whole_after given bytes piece held s.whole s.end ∙ ap (λ (k : Records). given ++ k.whole) r; end = ends } in
+    record { whole = whole_after given bytes piece held s.whole s.end ∙ ap (λ (k : Records). given ++ k.whole) r; end = ends } in
     (ends ∙ ap (λ (k : FrameFault). Broken k) p.0, subst (λ (k : Assembly). Stands given (bytes ++ piece) k) p.1 stands)
 
 broken_stands : (given : List (List ℕ)) (bytes piece held : List ℕ) (fault : FrameFault) → Stands given bytes (record { held = held; ready = None; fault = Some fault }) → ((records (bytes ++ piece)).end ≡ Broken fault) × Stands given (bytes ++ piece) (record { held = held; ready = None; fault = Some fault })

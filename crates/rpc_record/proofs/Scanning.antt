@@ -1,5 +1,5 @@
 -- How far a stream was looked at.
-use Rattle.std.proofs.Common.{◌⊎◌, inl, inr, ◌≡◌, ℕ, zero, suc, ◌+◌, ◌-◌, ◌*◌, ◌%◌, ◌^◌, ◌<◌, ◌≤◌, Bool, true, false, List, [], ◌∷◌, ◌++◌, length, take, drop, get_or, Some, refl, sym, ap, ◌∙◌, arith, add-one, length-append, length-drop, subst}
+use Rattle.std.proofs.Common.{◌⊎◌, inl, inr, ◌≡◌, ℕ, zero, suc, ◌+◌, ◌-◌, ◌%◌, ◌^◌, ◌<◌, ◌≤◌, true, false, List, [], ◌∷◌, ◌++◌, length, take, drop, get_or, Some, refl, sym, ap, ◌∙◌, arith, add-one, length-append, length-drop}
 use Rattle.std.specs.Int.{w32, from_be_bytes}
 use Rattle.std.specs.List.{slice_get}
 use Rattle.std.proofs.Math.Seq.{drop-cons}
@@ -8,7 +8,7 @@ use Rattle.std.proofs.lemmas.List.{drop-drop, length-take-le}
 use Rattle.std.proofs.lemmas.Option.{slice_get_within, get_or_from_slice_get}
 use Rattle.rpc_record.specs.declared.fault.FrameFault.TheVariants.{TooLong, TooMany}
 use Rattle.rpc_record.specs.Records.{record_max, header, fragment_len, is_last, body, behind, Front, Open, Fault, Whole, front, front_from}
-use Rattle.rpc_record.proofs.Steps.{last_is, not_last_is, open_short, too_many, too_long, open_cut, whole_last, front_more}
+use Rattle.rpc_record.proofs.Steps.{last_is, open_short, too_many, too_long, open_cut, whole_last, front_more}
 
 cut_one : (all : List ℕ) (at a : ℕ) → slice_get all at ≡ Some a → drop at all ≡ a ∷ drop (at + 1) all
 cut_one all at a e =
@@ -23,7 +23,7 @@ header_of all at a b c d ea eb ec ed =
     let three : drop (at + 2) all ≡ c ∷ drop (at + 3) all = cut_one all (at + 2) c ec ∙ ap (λ (k : ℕ). c ∷ drop k all) (omega arith) in
     let four : drop (at + 3) all ≡ d ∷ drop (at + 3 + 1) all = cut_one all (at + 3) d ed in
     let whole : drop at all ≡ a ∷ b ∷ c ∷ d ∷ drop (at + 3 + 1) all =
-      cut_one all at a ea ∙ ap (λ (k : List ℕ). a ∷ k) (two ∙ ap (λ (k : List ℕ). b ∷ k) (three ∙ ap (λ (k : List ℕ). c ∷ k) four)) in
+    cut_one all at a ea ∙ ap (λ (k : List ℕ). a ∷ k) (two ∙ ap (λ (k : List ℕ). b ∷ k) (three ∙ ap (λ (k : List ℕ). c ∷ k) four)) in
     ap (λ (k : List ℕ). from_be_bytes w32 (take 4 k)) whole
 
 -- A stream was looked at up to a place: so many fragments may still come, and so many bytes were joined.
@@ -52,9 +52,9 @@ scan_more left joined at n all s some e l fits t =
     let room : length s.have + fragment_len bytes ≤ record_max = rw (e, s.count) l in
     let short : fragment_len bytes ≤ length (drop 4 bytes) = omega (arith, length-drop 4 bytes) in
     let joins : length (s.have ++ body bytes) ≡ joined + n =
-      length-append s.have (body bytes) ∙ ap (λ (k : ℕ). length s.have + k) (length-take-le (fragment_len bytes) (drop 4 bytes) short ∙ e) ∙ ap (λ (k : ℕ). k + n) s.count in
+    length-append s.have (body bytes) ∙ ap (λ (k : ℕ). length s.have + k) (length-take-le (fragment_len bytes) (drop 4 bytes) short ∙ e) ∙ ap (λ (k : ℕ). k + n) s.count in
     let next : front all ≡ front_from (left - 1) (s.have ++ body bytes) (drop (at + (4 + n)) all) =
-      s.so_far ∙ front_more left (left - 1) s.have bytes (omega arith) there room t ∙ ap (λ (k : List ℕ). front_from (left - 1) (s.have ++ body bytes) k) (behind_at at n all e) in
+    s.so_far ∙ front_more left (left - 1) s.have bytes (omega arith) there room t ∙ ap (λ (k : List ℕ). front_from (left - 1) (s.have ++ body bytes) k) (behind_at at n all e) in
     record { have = s.have ++ body bytes; count = joins; so_far = next; within = fits; few = l; most = omega (arith, s.most) }
 
 pub scan_short : (left joined at : ℕ) (all : List ℕ) → ScannedTo left joined at all → length (drop at all) < 4 → front all ≡ Open
@@ -102,20 +102,20 @@ pub some_room : (left : ℕ) (have rest : List ℕ) (f : Front) (after : List �
 some_room left have rest f after j = go (cases_lt record_max (length have + fragment_len rest)) where
   go : (record_max < length have + fragment_len rest) ⊎ (length have + fragment_len rest ≤ record_max) → length have + fragment_len rest ≤ record_max
   go (inl h) =
-    let some = some_left left have rest f after j in
-    let e = sym j.so_far ∙ j.ends in
-    let o = too_long left (left - 1) have rest (omega arith) (some_header left have rest f after j) h in
-    absurd (cc)
+      let some = some_left left have rest f after j in
+      let e = sym j.so_far ∙ j.ends in
+      let o = too_long left (left - 1) have rest (omega arith) (some_header left have rest f after j) h in
+      absurd (cc)
   go (inr h) = h
 
 pub some_body : (left : ℕ) (have rest : List ℕ) (f : Front) (after : List ℕ) → Joining left have rest f after → 4 + fragment_len rest ≤ length rest
 some_body left have rest f after j = go (cases_lt (length rest) (4 + fragment_len rest)) where
   go : (length rest < 4 + fragment_len rest) ⊎ (4 + fragment_len rest ≤ length rest) → 4 + fragment_len rest ≤ length rest
   go (inl h) =
-    let some = some_left left have rest f after j in
-    let e = sym j.so_far ∙ j.ends in
-    let o = open_cut left (left - 1) have rest (omega arith) (some_header left have rest f after j) (some_room left have rest f after j) h in
-    absurd (cc)
+      let some = some_left left have rest f after j in
+      let e = sym j.so_far ∙ j.ends in
+      let o = open_cut left (left - 1) have rest (omega arith) (some_header left have rest f after j) (some_room left have rest f after j) h in
+      absurd (cc)
   go (inr h) = h
 
 pub join_last : (left : ℕ) (have rest : List ℕ) (f : Front) (after : List ℕ) → Joining left have rest f after → is_last rest ≡ true → (f ≡ Whole (have ++ body rest) after) × (behind rest ≡ after)

@@ -1,10 +1,8 @@
 -- The records of a stream and of a longer one.
-use Rattle.std.proofs.Common.{◌⊎◌, inl, inr, ◌≡◌, ℕ, zero, suc, ◌+◌, ◌-◌, ◌<◌, ◌≤◌, List, [], ◌∷◌, ◌++◌, length, take, drop, refl, sym, ap, ◌∙◌, subst, arith, add-one, length-append, append_assoc, append-nil, Option, Some, None, Result, Ok, Err}
-use Rattle.std.proofs.Math.Seq.{take-append-add}
+use Rattle.std.proofs.Common.{◌≡◌, ℕ, zero, suc, ◌+◌, ◌≤◌, List, [], ◌∷◌, ◌++◌, length, refl, sym, ap, ◌∙◌, arith, add-one}
 use Rattle.rpc_record.specs.declared.fault.FrameFault.{FrameFault}
-use Rattle.rpc_record.specs.Records.{Front, Open, Fault, Whole, front, End, Rest, Broken, Records, then_record, records_from, records}
-use Rattle.rpc_record.specs.Assembly.{Assembly, empty, Fed, by_front, fed_after, fed, ready_records, end_of, Stands}
-use Rattle.rpc_record.proofs.Fronts.{whole_more, fault_more, front_empty, whole_shrinks, whole_cut, open_before}
+use Rattle.rpc_record.specs.Records.{Front, Open, Fault, Whole, front, Rest, Broken, Records, then_record, records_from, records}
+use Rattle.rpc_record.proofs.Fronts.{whole_more, fault_more, front_empty, whole_shrinks}
 
 split_by : Front → List ℕ → (List ℕ → Records) → Records
 split_by f bytes go = elim f [

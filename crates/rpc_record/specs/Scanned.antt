@@ -3,7 +3,7 @@ use Rattle.std.specs.Prelude.{◌≡◌, ◌≢◌, ℕ, ◌≤◌, List, length
 use Rattle.rpc_record.specs.declared.stream.FirstRecord.{FirstRecord}
 use Rattle.rpc_record.specs.declared.stream.FirstRecord.TheVariants as found
 use Rattle.rpc_record.specs.declared.fault.FrameFault.TheVariants.{Memory}
-use Rattle.rpc_record.specs.Records.{Front, Open, Fault, Whole, front}
+use Rattle.rpc_record.specs.Records.{Open, Fault, Whole, front}
 
 abbrev pub IsFirstRecord : FirstRecord → List ℕ → Type 0
 IsFirstRecord found.Open bytes = front bytes ≡ Open

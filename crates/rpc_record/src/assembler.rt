@@ -91,7 +91,8 @@ fn append(held: &mut Vec<u8>, piece: &[u8]) -> Result<(), FrameFault>
     ensures ok { OnOk result (held.new.items ≡ held.old.items ++ piece.now) }
     ensures err { IfErr result (λ fault. (fault ≡ FrameFault.Memory) × (held.new.items ≡ held.old.items)) }
 {
-    held.extend_from_slice(piece).map_err(|_| FrameFault::Memory)
+    held.extend_from_slice(piece)
+        .map_err(|_| FrameFault::Memory)
 }
 
 // The record that what is held and the end of its fragments are; then nothing is held.

@@ -10,7 +10,7 @@ ghost use Rattle.rpc_record.specs.Assembly.{Assembly, empty, fed, ready_records,
 pub fn front_law()
     ensures exact { (bytes joined rest : List ℕ)
         → (front bytes ≡ Whole joined rest)
-            ↔ ((text : List ℕ) × (bytes ≡ text ++ rest) × SpellsRecord text joined) }
+        ↔ ((text : List ℕ) × (bytes ≡ text ++ rest) × SpellsRecord text joined) }
     ensures whole { (bytes more joined rest : List ℕ) → front bytes ≡ Whole joined rest
         → front (bytes ++ more) ≡ Whole joined (rest ++ more) }
     ensures fault { (bytes more : List ℕ) (fault : FrameFault) → front bytes ≡ Fault fault

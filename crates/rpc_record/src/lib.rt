@@ -11,3 +11,6 @@ pub use assembler::Assembler;
 pub use fault::FrameFault;
 pub use laws::{assembler_law, front_law, records_law};
 pub use marking::mark;
+
+#[cfg(test)]
+mod tests;

@@ -1,4 +1,4 @@
-use Rattle.std.proofs.Common.{◌≡◌, ◌++◌, sym, ◌∙◌}
+use Rattle.std.proofs.Common.{◌++◌, sym, ◌∙◌}
 use Rattle.rpc_record.proofs.Scanning.{header_of}
 use Rattle.rpc_record.proofs.stream.header_at.Goals as goal
 

@@ -1,7 +1,7 @@
-use Rattle.std.proofs.Common.{◌≡◌, ℕ, ◌+◌, ◌-◌, ◌%◌, ◌^◌, ◌≤◌, ◌<◌, List, [], ◌++◌, length, take, drop, refl, sym, ap, ◌∙◌, subst, arith, length-drop}
-use Rattle.rpc_record.specs.Records.{header, fragment_len, body, behind}
+use Rattle.std.proofs.Common.{◌≡◌, ℕ, ◌+◌, ◌%◌, ◌^◌, ◌≤◌, ◌<◌, List, ◌++◌, length, ap, ◌∙◌, arith, length-drop}
+use Rattle.rpc_record.specs.Records.{fragment_len, body}
 use Rattle.rpc_record.proofs.Steps.{last_is, not_last_is}
-use Rattle.rpc_record.proofs.Scanning.{Joining, join_start, some_header, some_left, some_body, join_last, join_more, header_is, body_is, behind_is}
+use Rattle.rpc_record.proofs.Scanning.{join_start, some_header, some_left, some_body, join_last, join_more, header_is, body_is, behind_is}
 use Rattle.rpc_record.proofs.stream.join.Goals as goal
 
 pub loop-word-init : goal.loop-word-init

@@ -1,9 +1,7 @@
-use Rattle.std.proofs.Common.{◌≡◌, ◌≢◌, ◌≤◌, ◌++◌, ◌-◌, ℕ, List, [], length, take, drop, None, Some, Ok, Err, refl, sym, ap, ◌∙◌, arith}
-use Rattle.rpc_record.specs.declared.fault.FrameFault.{FrameFault}
-use Rattle.rpc_record.specs.Records.{Front, Open, Fault, Whole, front}
-use Rattle.rpc_record.specs.Assembly.{Assembly, Fed, empty, fed}
+use Rattle.std.proofs.Common.{◌≡◌, ◌++◌, ◌-◌, ℕ, [], length, take, drop, sym, ap, ◌∙◌, arith}
+use Rattle.rpc_record.specs.Records.{Open, Fault, Whole, front}
 use Rattle.rpc_record.proofs.Fronts.{front_empty}
-use Rattle.rpc_record.proofs.Pieces.{fed_broken, fed_open, fed_fault, fed_whole, WholeTo, whole_to, same_joined}
+use Rattle.rpc_record.proofs.Pieces.{fed_broken, fed_open, fed_fault, fed_whole, whole_to, same_joined}
 use Rattle.rpc_record.proofs.assembler.Assembler.feed.Goals as goal
 
 pub returns-in-Some-clause-fault : goal.returns-in-Some-clause-fault
