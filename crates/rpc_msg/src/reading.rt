@@ -19,7 +19,10 @@ pub fn read_call(alloc: Global, message: Bytes) -> Result<Call, CallFault>
     ensures memory { (xid : ℕ) → result ≡ Err (CallFault.Memory xid)
         → (call : CallText) × (call_of message ≡ Ok call) × (call.xid ≡ xid) }
 {
-    let parts = read_parts(message.as_slice())?;
+    let parts = match read_parts(message.as_slice()) {
+        Ok(parts) => parts,
+        Err(fault) => return Err(fault),
+    };
     let xid = parts.xid;
     let caller = parts.sender.caller;
     let Ok(host) = Bytes::copy_from_slice(alloc, parts.sender.host) else {
