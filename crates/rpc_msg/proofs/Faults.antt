@@ -1,11 +1,11 @@
 -- The reading of a call never wants memory.
-use Rattle.std.proofs.Common.{◌≡◌, ℕ, Bool, true, false, cond, ◌==◌, List, [], ◌∷◌, refl, sym, ap, ◌∙◌, Result, Ok, Err}
+use Rattle.std.proofs.Common.{◌≡◌, ℕ, Bool, true, false, cond, ◌==◌, List, ap, Result, Ok, Err}
 use Rattle.xdr.specs.declared.fault.XdrFault.{XdrFault}
 use Rattle.xdr.specs.declared.fault.XdrFault.TheVariants as xdr
-use Rattle.xdr.specs.Reading.{Cursor, Reading, start, u32_at, opaque_at}
+use Rattle.xdr.specs.Reading.{Cursor, start, u32_at, opaque_at}
 use Rattle.rpc_msg.specs.declared.fault.CallFault.{CallFault}
-use Rattle.rpc_msg.specs.declared.fault.CallFault.TheVariants.{NotCall, RpcMismatch, BadCred, RejectedCred, Short, Memory}
-use Rattle.rpc_msg.specs.Calls.{◌>>=◌, SenderText, CallText, nobody, or_bad_cred, system_sender, sender_of, or_short, part_at, or_auth, auth_at, body_of, call_of}
+use Rattle.rpc_msg.specs.declared.fault.CallFault.TheVariants.{NotCall, RpcMismatch, RejectedCred, Memory}
+use Rattle.rpc_msg.specs.Calls.{◌>>=◌, SenderText, nobody, or_bad_cred, system_sender, sender_of, or_short, part_at, or_auth, auth_at, body_of, call_of}
 
 abbrev Never : {A : Type 0} → Result A CallFault → Type 0
 Never r = (xid : ℕ) → r ≡ Err (Memory xid) → ⊥

@@ -1,5 +1,5 @@
 -- How a message is read as a call (RFC 5531 section 9), and a credential of AUTH_SYS (its appendix A).
-use Rattle.std.specs.Prelude.{ℕ, zero, suc, ◌^◌, Bool, true, false, ◌==◌, nat_lt, if◌then◌else◌, List, [], ◌∷◌, Result, Ok, Err, codes}
+use Rattle.std.specs.Prelude.{ℕ, zero, suc, ◌==◌, nat_lt, if◌then◌else◌, List, [], ◌∷◌, Result, Ok, Err, codes}
 use Rattle.xdr.specs.declared.fault.XdrFault.{XdrFault}
 use Rattle.xdr.specs.declared.fault.XdrFault.TheVariants as xdr
 use Rattle.xdr.specs.Reading.{Cursor, Reading, start, u32_at, opaque_at, finish_at}

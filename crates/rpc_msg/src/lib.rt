@@ -12,3 +12,6 @@ pub use call::{Call, Caller};
 pub use fault::CallFault;
 pub use reading::read_call;
 pub use replies::{accepted_head, auth_error, rpc_mismatch, system_err};
+
+#[cfg(test)]
+mod tests;

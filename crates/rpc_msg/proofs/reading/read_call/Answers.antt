@@ -1,7 +1,7 @@
-use Rattle.std.proofs.Common.{◌≡◌, ℕ, List, Ok, Err, sym, ap, ◌∙◌}
+use Rattle.std.proofs.Common.{◌≡◌, ℕ, List, Err, sym, ap, ◌∙◌}
 use Rattle.rpc_msg.specs.declared.fault.CallFault.{CallFault}
 use Rattle.rpc_msg.specs.declared.fault.CallFault.TheVariants.{Memory}
-use Rattle.rpc_msg.specs.Calls.{CallText, call_of}
+use Rattle.rpc_msg.specs.Calls.{call_of}
 use Rattle.rpc_msg.specs.Told.{told_call}
 use Rattle.rpc_msg.proofs.Faults.{never_call}
 use Rattle.rpc_msg.proofs.reading.read_call.Goals as goal

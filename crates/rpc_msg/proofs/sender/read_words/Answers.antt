@@ -1,6 +1,5 @@
-use Rattle.std.proofs.Common.{◌≡◌, ℕ, ◌+◌, ◌-◌, List, length, take, refl, sym, ap, ◌∙◌, arith, rules, Ok, Err, Result}
+use Rattle.std.proofs.Common.{◌≡◌, ℕ, ◌+◌, ◌-◌, List, take, sym, ap, ◌∙◌, arith, rules, Ok, Err}
 use Rattle.std.proofs.lemmas.List.{take_more_set, length-set}
-use Rattle.xdr.specs.Reading.{Cursor, Reading}
 use Rattle.rpc_msg.specs.Calls.{words_at}
 use Rattle.rpc_msg.proofs.Words.{joined_words, words_more, words_fault, words_end}
 use Rattle.rpc_msg.proofs.sender.read_words.Goals as goal
