@@ -44,6 +44,13 @@ impl<'a> Reader<'a> {
         self.place
     }
 
+    /// The bytes that are left.
+    pub fn rest(&self) -> &'a [u8]
+        ensures { result.now ≡ self.now.left }
+    {
+        self.left
+    }
+
     /// An unsigned integer (RFC 4506 section 4.2).
     #[tactic(auto, unfolding(crate::specs::Reading::u32_at))]
     pub fn take_u32(&mut self) -> Result<u32, XdrFault>

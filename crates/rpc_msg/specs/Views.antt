@@ -1,0 +1,12 @@
+-- What a call is seen as.
+use Rattle.std.specs.Prelude.{ℕ, List, take}
+use Rattle.rpc_msg.specs.declared.call.Caller.{Caller}
+use Rattle.rpc_msg.specs.declared.call.Call.{Call}
+use Rattle.rpc_msg.specs.Calls.{SenderText, CallText}
+
+-- the first gid_count of gids count
+abbrev pub sender_view : Caller → List ℕ → SenderText
+sender_view caller host = record { uid = caller.uid; gid = caller.gid; gids = take caller.gid_count caller.gids; host = host }
+
+abbrev pub call_view : Call → CallText
+call_view call = record { xid = call.xid; prog = call.prog; vers = call.vers; proc_no = call.proc_no; sender = sender_view call.caller call.host; args = call.args }

@@ -1,0 +1,47 @@
+// The fronts of replies. None takes memory.
+ghost use Rattle.std.specs.Prelude.{◌≡◌};
+ghost use Rattle.rpc_msg.specs.Replies.{accepted, mismatched, denied};
+
+/// The front of an accepted reply; its results follow. Statuses (RFC 5531 section 9): SUCCESS 0,
+/// PROG_UNAVAIL 1, PROG_MISMATCH 2, PROC_UNAVAIL 3, GARBAGE_ARGS 4, SYSTEM_ERR 5.
+#[tactic(auto, unfolding(crate::specs::Replies::accepted, xdr::specs::Items::word))]
+pub fn accepted_head(xid: u32, stat: u32) -> [u8; 24]
+    ensures { result ≡ accepted xid stat }
+{
+    let x = xid.to_be_bytes();
+    let s = stat.to_be_bytes();
+    [
+        x[0], x[1], x[2], x[3], 0, 0, 0, 1, 0, 0, 0, 0, 0, 0, 0, 0, 0, 0, 0, 0, s[0], s[1], s[2],
+        s[3],
+    ]
+}
+
+/// The reply to a call of another version of the protocol than 2.
+#[tactic(auto, unfolding(crate::specs::Replies::mismatched, xdr::specs::Items::word))]
+pub fn rpc_mismatch(xid: u32) -> [u8; 24]
+    ensures { result ≡ mismatched xid }
+{
+    let x = xid.to_be_bytes();
+    [
+        x[0], x[1], x[2], x[3], 0, 0, 0, 1, 0, 0, 0, 1, 0, 0, 0, 0, 0, 0, 0, 2, 0, 0, 0, 2,
+    ]
+}
+
+/// The reply to a credential that isn't taken: AUTH_BADCRED 1 or AUTH_REJECTEDCRED 2.
+#[tactic(auto, unfolding(crate::specs::Replies::denied, xdr::specs::Items::word))]
+pub fn auth_error(xid: u32, stat: u32) -> [u8; 20]
+    ensures { result ≡ denied xid stat }
+{
+    let x = xid.to_be_bytes();
+    let s = stat.to_be_bytes();
+    [
+        x[0], x[1], x[2], x[3], 0, 0, 0, 1, 0, 0, 0, 1, 0, 0, 0, 1, s[0], s[1], s[2], s[3],
+    ]
+}
+
+/// The reply where memory was wanting.
+pub fn system_err(xid: u32) -> [u8; 24]
+    ensures { result ≡ accepted xid 5 }
+{
+    accepted_head(xid, 5)
+}

@@ -1,0 +1,5 @@
+pub mod Steps
+pub mod Scanning
+pub mod Fronts
+pub mod Streams
+pub mod Pieces

@@ -1,0 +1,3 @@
+pub mod Records
+pub mod Assembly
+pub mod Scanned

@@ -1,0 +1,16 @@
+//! Record marking of RFC 5531 section 11: a byte stream is cut into records, and replies are marked.
+#![tactic(auto)]
+
+mod assembler;
+mod fault;
+mod laws;
+mod marking;
+mod stream;
+
+pub use assembler::Assembler;
+pub use fault::FrameFault;
+pub use laws::{assembler_law, front_law, records_law};
+pub use marking::mark;
+
+#[cfg(test)]
+mod tests;
