@@ -1,24 +1,22 @@
 -- From the end of the lines to the end of the run.
-use Rattle.std.proofs.Common.{◌≡◌, ◌≢◌, ℕ, ◌+◌, ◌-◌, ◌^◌, ◌<◌, ◌≤◌, min, Bool, true, false, List, [], ◌∷◌, ◌++◌, length, take, replicate, Some, None, unwrap_or, refl, sym, ◌∙◌, ap, subst, append_assoc, append-nil, length-append, get_or, ◌⊎◌, inl, inr, arith}
+use Rattle.std.proofs.Common.{◌≡◌, ◌≢◌, ℕ, ◌+◌, ◌-◌, Bool, true, false, List, [], ◌∷◌, ◌++◌, length, take, replicate, Some, None, unwrap_or, refl, sym, ◌∙◌, ap, subst, append_assoc, append-nil, length-append, get_or, ◌⊎◌, inl, inr, arith}
 use Rattle.std.specs.declared.option.Option.{Option}
 use Rattle.std.specs.Io.KnownBytes.{Consumes, Appends, IsAtEnd}
-use Rattle.std.proofs.KnownBytes.{Appends-nil, Appends-trans, Consumes-nil}
+use Rattle.std.proofs.KnownBytes.{Appends-trans}
 use Rattle.std.proofs.Math.Seq.{take-length}
 use Rattle.std.proofs.lemmas.List.{length-take, length-replicate}
 use Rattle.gw_outside.specs.Causes.{Rose}
 use Rattle.gw_model.specs.Ahead.{Called}
 use Rattle.transcript.specs.Script.{Stop, AtEnd, AtBad, AtOpen}
 use Rattle.transcript.specs.Writing.{IsPrefix, AppendsPrefix}
-use Rattle.nfsgw.specs.Headline.{Outside, Traffic, Moves, Fails, nothing, script, ahead_of, output, IsWhole, IsFront, IsShort, IsRun, IsComplete, Runs}
-use Rattle.nfsgw.specs.World.{Told}
-use Rattle.nfsgw.specs.Steps.{Context, Gone, gone_of, gone_at_end, onto, end_history}
+use Rattle.nfsgw.specs.Headline.{Outside, Traffic, Moves, Fails, nothing, script, ahead_of, IsWhole, IsShort, IsRun, IsComplete, Runs}
+use Rattle.nfsgw.specs.Steps.{Context, gone_of, end_history}
 use Rattle.nfsgw.specs.Outside.{Fits, Opens, GivesBack, faults_at}
-use Rattle.nfsgw.specs.Progress.{Closes, IsFrontOf, IsShortOf, stopped_with, IsEnding, Keeps, Ends, status_by}
+use Rattle.nfsgw.specs.Progress.{Closes, IsShortOf, IsEnding, Keeps, Ends, status_by}
 use Rattle.nfsgw.specs.declared.run.Turn.{Turn}
 use Rattle.nfsgw.specs.declared.run.Turn.TheVariants as turn
 use Rattle.nfsgw.specs.declared.status.Status.{Status}
 use Rattle.nfsgw.specs.declared.status.Status.TheVariants as status
-use Rattle.nfsgw.proofs.Bridge.{IsTold}
 use Rattle.nfsgw.proofs.Scripts.{output_is}
 use Rattle.nfsgw.proofs.Runs.{Moves-nil}
 

@@ -1,5 +1,5 @@
 -- What accepting a write and doing one leaves of those that are held.
-use Rattle.std.proofs.Common.{◌≡◌, ℕ, ◌+◌, ◌≤◌, Bool, true, false, List, [], ◌∷◌, ◌++◌, length, drop, refl, sym, ap, ◌∙◌, arith}
+use Rattle.std.proofs.Common.{◌≡◌, ℕ, ◌+◌, ◌≤◌, Bool, true, List, [], ◌∷◌, ◌++◌, length, drop, refl, ap, arith}
 use Rattle.std.specs.List.{AllByRecursion}
 use Rattle.nfsgw.specs.Packed.{held_size, IsPacked}
 use Rattle.nfsgw.specs.declared.open_file.HeldWrite.{HeldWrite}

@@ -1,5 +1,5 @@
 -- Worked rows from the transcript's bytes to the output's, computed by the definitions.
-use Rattle.std.proofs.Common.{◌≡◌, ℕ, List, [], ◌∷◌, ◌++◌, refl, true, false}
+use Rattle.std.proofs.Common.{ℕ, List, [], ◌∷◌, refl}
 use Rattle.std.specs.Prelude.{codes}
 use Rattle.std.specs.Fmt.{digits}
 use Rattle.hex.specs.Hex.{encode_with}
@@ -7,17 +7,17 @@ use Rattle.hex.proofs.OnLiterals.{hex_on_literals}
 use Rattle.md5.specs.Md5.{md5, digest_bytes, hash_after, compress, rounds, block_words}
 use Rattle.xdr.specs.Items.{word, long}
 use Rattle.handles.specs.Handle.{handle_text, ids_text}
-use Rattle.gw_model.specs.Ahead.{Called, Good, Bad}
+use Rattle.gw_model.specs.Ahead.{Called, Good}
 use Rattle.gw_model.specs.Admission.{write, accept, judge_write, used_at, send_ready}
 use Rattle.gw_model.specs.Writer.{turn, do_job}
 use Rattle.gw_model.specs.Ending.{history_of}
 use Rattle.transcript.specs.Fields.{number_of}
-use Rattle.transcript.specs.Script.{AtEnd, parts, script_of}
+use Rattle.transcript.specs.Script.{parts, script_of}
 use Rattle.nfsgw.specs.Call.{call_text, call_head, write_args, fields_of, call_of}
 use Rattle.nfsgw.specs.Text.{accepted_head, wrote_reply, refused_reply, hex_line, context_text, range_text, ended_line}
 use Rattle.nfsgw.specs.Grammar.{is_name, line_of}
 use Rattle.nfsgw.specs.World.{next}
-use Rattle.nfsgw.specs.Headline.{IsRun, output, script, Traffic}
+use Rattle.nfsgw.specs.Headline.{IsRun}
 use Rattle.nfsgw.specs.declared.status.Status.TheVariants as status
 
 -- a whole transcript over an empty body writes this and leaves the body so

@@ -1,17 +1,16 @@
 -- From one line to the next, and to the last.
-use Rattle.std.proofs.Common.{◌≡◌, ◌≢◌, ℕ, ◌+◌, ◌-◌, ◌^◌, ◌<◌, ◌≤◌, min, Bool, true, false, List, [], ◌∷◌, ◌++◌, length, Some, None, unwrap_or, refl, sym, ◌∙◌, ap, subst, append_assoc, append-nil, length-append, arith}
+use Rattle.std.proofs.Common.{◌≡◌, ◌≢◌, ℕ, ◌+◌, ◌<◌, Bool, true, false, List, [], ◌∷◌, ◌++◌, length, Some, None, refl, sym, ◌∙◌, ap, subst, append_assoc, append-nil, length-append, arith}
 use Rattle.std.specs.declared.option.Option.{Option}
-use Rattle.std.specs.Io.KnownBytes.{Consumes, Appends, IsAtEnd}
+use Rattle.std.specs.Io.KnownBytes.{Consumes}
 use Rattle.std.proofs.KnownBytes.{Appends-nil, Appends-trans, Consumes-trans, Consumes-nil}
 use Rattle.gw_model.specs.Ahead.{Called, Good, Bad}
 use Rattle.transcript.specs.Script.{Script, Stop, AtEnd, AtBad, AtOpen, script_from, line_then, then_script, stops, max_lines, TakesLine, IsPart, BeginsTooLong}
-use Rattle.transcript.specs.Writing.{IsPrefix, AppendsPrefix}
 use Rattle.transcript.proofs.ScriptLaws.{script_takes, script_long, script_late, script_open}
 use Rattle.nfsgw.specs.Grammar.{read, reading_of, line_of}
 use Rattle.nfsgw.specs.Headline.{Outside, Traffic, Moves, Fails, failed_count, nothing, script, ahead_of}
-use Rattle.nfsgw.specs.Steps.{Context, Step, Gone, gone_of, gone_then, gone_at_end, onto, step_of}
-use Rattle.nfsgw.specs.Outside.{Fits, Opens, IsStep, Untouched}
-use Rattle.nfsgw.specs.Progress.{Place, script_at, gone_from, Leads, Rests, Settles, IsFrontOf, GoesShort, Halts, stopped_with, IsTurn, Turns, EventDone, EventCut, IsEventTurn, beginning, Reached, Closes, IsShortOf, IsEnding, Keeps, Ends}
+use Rattle.nfsgw.specs.Steps.{Context, Step, Gone, gone_of, gone_then, onto, step_of}
+use Rattle.nfsgw.specs.Outside.{Fits, Opens}
+use Rattle.nfsgw.specs.Progress.{Place, script_at, gone_from, Leads, Rests, Settles, GoesShort, Halts, stopped_with, IsTurn, Turns, IsEventTurn, beginning, Reached, Closes, IsShortOf, IsEnding, Keeps, Ends}
 use Rattle.nfsgw.specs.declared.grammar.Event.{Event}
 use Rattle.nfsgw.specs.declared.grammar.Line.{Line}
 use Rattle.nfsgw.specs.declared.grammar.Line.TheVariants.{Go, End}

@@ -1,13 +1,13 @@
 -- The steps of the program, case by case.
-use Rattle.std.proofs.Common.{◌≡◌, ℕ, ◌+◌, ◌-◌, ◌^◌, ◌<◌, ◌≤◌, nat_le, min, Bool, true, false, cond, List, [], ◌∷◌, ◌++◌, length, take, Some, None, refl, sym, ◌∙◌, ap, subst, append-nil, arith}
+use Rattle.std.proofs.Common.{◌≡◌, ℕ, ◌+◌, ◌^◌, ◌<◌, ◌≤◌, nat_le, min, Bool, true, false, List, [], ◌∷◌, ◌++◌, length, take, Some, None, refl, sym, ◌∙◌, ap, subst, append-nil, arith}
 use Rattle.std.specs.declared.option.Option.{Option}
 use Rattle.gw_outside.specs.Causes.{Rose}
 use Rattle.std.proofs.lemmas.Bool.Decides.{nat_tests}
 use Rattle.gw_model.specs.Ahead.{Ahead, Called, Good, Bad}
-use Rattle.nfsgw.specs.Headline.{Fails, ahead_of}
+use Rattle.nfsgw.specs.Headline.{ahead_of}
 use Rattle.nfsgw.specs.World.{fbig}
-use Rattle.nfsgw.specs.Steps.{Context, Step, says, fresh, refusal, placed, write_if, step_of, turn_held, turn_if, appended, good_reply, lost_reply}
-use Rattle.nfsgw.specs.Outside.{IsStep, Fits, Opens, Places}
+use Rattle.nfsgw.specs.Steps.{Context, Step, says, fresh, refusal, placed, write_if, step_of, turn_held, turn_if, good_reply, lost_reply}
+use Rattle.nfsgw.specs.Outside.{IsStep, Opens, Places}
 use Rattle.nfsgw.specs.Outside.{IsStepped, Untouched}
 use Rattle.append_store.specs.State.{ObjectState, Missing, Kept, Lent, IsAway, bytes_of}
 use Rattle.append_store.specs.Calls.{Creates, MayCreate}

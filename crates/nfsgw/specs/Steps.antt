@@ -2,7 +2,7 @@
 use Rattle.std.specs.Prelude.{ℕ, ◌+◌, ◌^◌, Bool, true, false, List, [], ◌∷◌, ◌++◌, length, take, min, Option, Some, None, nat_le, nat_lt, ◌==◌, if◌then◌else◌}
 use Rattle.gw_model.specs.declared.Stable.TheVariants.{Unstable}
 use Rattle.gw_model.specs.Ahead.{Ahead, Called, Good, Bad, next_call}
-use Rattle.gw_model.specs.Ending.{Fate, Lost, Stored, Open, WriteLine, Ended, History}
+use Rattle.gw_model.specs.Ending.{Fate, Lost, Stored, Open, WriteLine, Ended}
 use Rattle.nfsgw.specs.Text.{wrote_reply, refused_reply, reply_line, context_text, write_text, ended_text}
 use Rattle.nfsgw.specs.World.{fbig, notsupp}
 use Rattle.nfsgw.specs.declared.call.WriteCall.{WriteCall}

@@ -1,13 +1,13 @@
 -- The sequential definition, cut to in-order writes of one file: what each event leaves of the world, and what it writes.
 use Rattle.std.specs.Prelude.{ℕ, ◌+◌, ◌^◌, Bool, true, false, not, List, [], ◌∷◌, ◌++◌, length, Option, Some, None, nat_le, ◌==◌, if◌then◌else◌}
-use Rattle.std.specs.List.{filter, flat_map}
+use Rattle.std.specs.List.{filter}
 use Rattle.gw_model.specs.declared.limits.Limits.{Limits}
 use Rattle.gw_model.specs.declared.Stable.TheVariants.{Unstable}
 use Rattle.gw_model.specs.Ahead.{Ahead, Called, Good, Bad, next_call}
 use Rattle.gw_model.specs.File.{Body, Wrote, NotWritten, Answer, File, Step, opened, content, reach_of}
 use Rattle.gw_model.specs.Admission.{io, write, at_once, WriteRequest}
 use Rattle.gw_model.specs.Writer.{turn}
-use Rattle.gw_model.specs.Ending.{Ended, History, history_of}
+use Rattle.gw_model.specs.Ending.{Ended, history_of}
 use Rattle.nfsgw.specs.Text.{wrote_reply, refused_reply, reply_line, history_text}
 use Rattle.nfsgw.specs.declared.call.WriteCall.{WriteCall}
 use Rattle.nfsgw.specs.declared.grammar.Event.{Event}

@@ -1,4 +1,3 @@
-use Rattle.std.proofs.Common.{◌≡◌}
 use Rattle.nfsgw.proofs.Finishes.{runs_usage, completes}
 use Rattle.nfsgw.proofs.run.run_command.Goals as goal
 

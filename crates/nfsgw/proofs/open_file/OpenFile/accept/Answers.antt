@@ -1,4 +1,4 @@
-use Rattle.std.proofs.Common.{◌≡◌, ◌+◌, ap, sym, ◌∙◌, length, arith}
+use Rattle.std.proofs.Common.{◌≡◌, ap, sym, ◌∙◌, length}
 use Rattle.nfsgw.proofs.Packing.{packed_more}
 use Rattle.nfsgw.proofs.open_file.OpenFile.accept.Goals as goal
 

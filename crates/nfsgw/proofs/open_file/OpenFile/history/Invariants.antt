@@ -1,6 +1,6 @@
 use Rattle.std.proofs.Common.{◌≡◌, ◌++◌, ◌+◌, drop, string_bytes}
 use Rattle.nfsgw.specs.Text.{context_text}
-use Rattle.nfsgw.specs.Steps.{Context, range_lines}
+use Rattle.nfsgw.specs.Steps.{range_lines}
 use Rattle.nfsgw.proofs.open_file.OpenFile.history.Given as goal
 
 abbrev pub invariant-loop-range : goal.invariant-loop-range

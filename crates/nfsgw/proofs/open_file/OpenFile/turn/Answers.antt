@@ -1,4 +1,4 @@
-use Rattle.std.proofs.Common.{◌≡◌, ◌+◌, ◌≤◌, ◌∷◌, [], ◌++◌, ap, sym, ◌∙◌, length, take, refl, arith}
+use Rattle.std.proofs.Common.{◌≡◌, [], ◌∙◌}
 use Rattle.std.proofs.Math.Seq.{take-length}
 use Rattle.nfsgw.proofs.Packing.{none_left}
 use Rattle.nfsgw.proofs.StepCases.{turn_none, turn_lost, turn_good, turn_bad}

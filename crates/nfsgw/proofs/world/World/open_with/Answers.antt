@@ -1,4 +1,4 @@
-use Rattle.std.proofs.Common.{◌≡◌, subst, string_bytes}
+use Rattle.std.proofs.Common.{subst, string_bytes}
 use Rattle.std.specs.Option.{option_map}
 use Rattle.append_store.specs.State.{bytes_of}
 use Rattle.nfsgw.specs.Outside.{body_id, body_at, faults_at, Places}

@@ -1,6 +1,4 @@
-use Rattle.std.proofs.Common.{◌≡◌}
-use Rattle.std.specs.Option.{option_map}
-use Rattle.nfsgw.specs.Outside.{body_id, body_at, faults_at}
+use Rattle.nfsgw.specs.Outside.{body_id}
 use Rattle.nfsgw.specs.declared.grammar.Event.TheVariants.{Turn}
 use Rattle.nfsgw.proofs.StepCases.{told_stepped}
 use Rattle.nfsgw.proofs.world.World.step.Goals as goal

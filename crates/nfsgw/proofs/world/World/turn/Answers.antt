@@ -1,4 +1,3 @@
-use Rattle.std.proofs.Common.{◌≡◌}
 use Rattle.std.specs.Option.{option_map}
 use Rattle.nfsgw.specs.Outside.{body_at, faults_at}
 use Rattle.nfsgw.proofs.StepCases.{turn_closed}

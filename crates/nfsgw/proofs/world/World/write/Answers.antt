@@ -1,4 +1,4 @@
-use Rattle.std.proofs.Common.{◌≡◌, ◌+◌, ◌≤◌, ◌<◌, ◌^◌, true, false, not, length, ap, sym, ◌∙◌, string_bytes, subst, Some}
+use Rattle.std.proofs.Common.{◌≡◌, true, false, not, length, ap, sym, ◌∙◌}
 use Rattle.std.specs.Prelude.{is_none}
 use Rattle.gw_model.specs.Order.{end_within}
 use Rattle.nfsgw.proofs.StepCases.{write_big, write_open, past_end, below_end}
