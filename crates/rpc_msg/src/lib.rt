@@ -3,6 +3,7 @@
 
 mod call;
 mod fault;
+mod laws;
 mod parts;
 mod reading;
 mod replies;
@@ -10,6 +11,7 @@ mod sender;
 
 pub use call::{Call, Caller};
 pub use fault::CallFault;
+pub use laws::call_law;
 pub use reading::read_call;
 pub use replies::{accepted_head, auth_error, rpc_mismatch, system_err};
 
