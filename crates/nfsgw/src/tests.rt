@@ -22,7 +22,6 @@ const HOLE: &str =
 
 #[derive(Clone, Copy)]
 struct Case {
-    word: &'static str,
     failing_read: u64,
     failing_write: u64,
     failing_call: u64,
@@ -30,7 +29,6 @@ struct Case {
 }
 
 const PLAIN: Case = Case {
-    word: "replay",
     failing_read: 0,
     failing_write: 0,
     failing_call: 0,
@@ -44,9 +42,25 @@ struct Outcome {
     content: Vec<u8>,
 }
 
-fn run(alloc: Global, case: &Case, lines: &[&str]) -> Result<Outcome, AllocError> {
+fn words_of(alloc: Global, texts: &[&str]) -> Result<Vec<String>, AllocError> {
     let mut words = Vec::new(alloc);
-    words.push(String::from_str(alloc, case.word)?)?;
+    for text in texts {
+        words.push(String::from_str(alloc, text)?)?;
+    }
+    Ok(words)
+}
+
+fn run(alloc: Global, case: &Case, lines: &[&str]) -> Result<Outcome, AllocError> {
+    command(alloc, &["replay"], case, lines)
+}
+
+fn command(
+    alloc: Global,
+    texts: &[&str],
+    case: &Case,
+    lines: &[&str],
+) -> Result<Outcome, AllocError> {
+    let words = words_of(alloc, texts)?;
     let mut transcript = Vec::new(alloc);
     for line in lines {
         transcript.extend_from_slice(line.as_bytes())?;
@@ -166,16 +180,19 @@ fn each_fault_has_its_status(rt: HostRuntime) -> Result<(), Fail> {
         &[FILE, HOLE, "end\n"],
     )?;
     assert_eq!(rt; written.status, Status::WriteFault);
-    let words = run(
-        alloc,
-        &Case {
-            word: "--x",
-            ..PLAIN
-        },
-        &[FILE, "end\n"],
-    )?;
-    assert_eq!(rt; words.status, Status::Usage);
-    assert_eq!(rt; words.written.len(), 0);
+    Ok(())
+}
+
+#[test]
+fn other_words_are_no_command(rt: HostRuntime) -> Result<(), Fail> {
+    let alloc = rt.alloc();
+    let none = command(alloc, &[], &PLAIN, &[FILE, "end\n"])?;
+    assert_eq!(rt; none.status, Status::Usage);
+    let option = command(alloc, &["replay", "--x"], &PLAIN, &[FILE, "end\n"])?;
+    assert_eq!(rt; option.status, Status::Usage);
+    let drill = command(alloc, &["drill", "1", "9", "1"], &PLAIN, &[FILE, "end\n"])?;
+    assert_eq!(rt; drill.status, Status::Usage);
+    assert_eq!(rt; drill.written.len(), 0);
     Ok(())
 }
 
@@ -190,7 +207,12 @@ fn the_first_bad_line_is_named(rt: HostRuntime) -> Result<(), Fail> {
         late.written.as_slice(),
         b"context 4 from 0\nwrite 1 0 5 open -\nended 4 end reach 5 stored 0 synced 0\n".as_slice()
     );
-    let text = status_text(alloc, Status::BadLine(12))?;
-    assert_eq!(rt; text.as_str(), "nfsgw: line 12: not a transcript line");
+    let Ok(text) = status_text(alloc, &Status::BadLine(12)) else {
+        return Err(Fail::from(AllocError));
+    };
+    assert_eq!(rt;
+        text.as_slice(),
+        b"nfsgw: line 12: not a transcript line".as_slice()
+    );
     Ok(())
 }
