@@ -1,0 +1,178 @@
+// The desk, and the tickets that it issues.
+ghost use Rattle.std.specs.Prelude.{◌≡◌, ◌-◌, ◌^◌, ◌↔◌, length, IfOk, OnOk, OnErr, IfSome, Option, None};
+ghost use Rattle.tickets.specs.Desk.{new_desk, owed, next_ticket, issued, answered, dropped, cancelled, IsSound};
+
+use crate::{Answer, Body};
+use std::alloc::Global;
+use std::collections::BTreeMap;
+use std::marker::Model;
+
+/// A reply that is owed. Only a desk makes one, and it can't be copied. One that is dropped leaves its number waiting.
+#[derive(Debug, Drop)]
+pub struct Ticket {
+    conn: u32,
+    number: u64,
+    xid: u32,
+}
+
+impl Model for Ticket {
+    ghost use Rattle.tickets.specs.Desk.{TicketId};
+
+    ghost Value = { TicketId };
+
+    ghost view = { λ t. record { conn = t.conn; number = t.number; xid = t.xid } };
+}
+
+impl Ticket {
+    /// The connection that the request came by.
+    pub fn conn(&self) -> u32
+        ensures { result ≡ self.now.conn }
+    {
+        self.conn
+    }
+
+    /// The number under which the reply is owed.
+    pub fn number(&self) -> u64
+        ensures { result ≡ self.now.number }
+    {
+        self.number
+    }
+
+    /// The number that the client gave its request (RFC 5531 section 9).
+    pub fn xid(&self) -> u32
+        ensures { result ≡ self.now.xid }
+    {
+        self.xid
+    }
+}
+
+/// Why no ticket was issued.
+#[derive(Clone, Copy, Debug, PartialEq, Eq)]
+pub enum IssueFault {
+    /// Memory was refused.
+    Memory,
+    /// The greatest `u64` was issued.
+    Last,
+}
+
+/// What became of an answer.
+#[derive(Debug, Drop, PartialEq, Eq)]
+pub enum Sent {
+    /// The reply to be written, once, to the connection that asked.
+    Reply { conn: u32, xid: u32, body: Body },
+    /// The number doesn't wait: its connection ended, or the ticket is of another desk.
+    Cancelled,
+}
+
+// Who waits for a reply.
+#[derive(Clone, Copy, Debug)]
+struct Asker {
+    conn: u32,
+    xid: u32,
+}
+
+/// The replies that are owed. A new number is greater than all before, so that each gets at most one reply.
+#[derive(Drop)]
+pub struct ReplyDesk {
+    last: u64,
+    waiting: BTreeMap<u64, Asker>,
+    sent: u64,
+}
+
+impl Model for ReplyDesk {
+    ghost use Rattle.std.specs.Prelude.{map};
+    ghost use Rattle.tickets.specs.Desk.{DeskState, IsSound};
+    ghost use Rattle.tickets.specs.Entries.{tickets_of};
+
+    ghost Value = { DeskState };
+
+    ghost view = { λ d. record { last = d.last; waiting = tickets_of d.waiting.entries; sent = d.sent } };
+
+    ghost invariant = { λ d. IsSound (record { last = d.last; waiting = tickets_of d.waiting.entries; sent = d.sent }) };
+}
+
+impl ReplyDesk {
+    /// Makes a desk that issued nothing.
+    pub fn new(alloc: Global) -> Self
+        ensures { result ≡ new_desk }
+    {
+        ReplyDesk {
+            last: 0,
+            waiting: BTreeMap::new(alloc),
+            sent: 0,
+        }
+    }
+
+    /// Issues the next number to a request of a connection, and the number waits. A fault changes nothing.
+    pub fn issue(&mut self, conn: u32, xid: u32) -> Result<Ticket, IssueFault>
+        ensures ticket { IfOk result (λ t. t ≡ next_ticket conn xid self.old) }
+        ensures joins { OnOk result (self.new ≡ issued conn xid self.old) }
+        ensures err { OnErr result (self.new ≡ self.old) }
+        ensures last { (result ≡ Err IssueFault.Last) ↔ (self.old.last ≡ 2 ^ 64 - 1) }
+        ensures sound { IsSound self.new }
+    {
+        let Some(number) = self.last.checked_add(1) else {
+            return Err(IssueFault::Last);
+        };
+        match self.waiting.insert(number, Asker { conn, xid }) {
+            Ok(_) => {}
+            Err(_) => return Err(IssueFault::Memory),
+        }
+        self.last = number;
+        Ok(Ticket { conn, number, xid })
+    }
+
+    /// Spends the answer's ticket. Where its number waits, the reply goes to whoever the number was issued to, and the
+    /// number waits no more. Takes no memory.
+    pub fn send(&mut self, answer: Answer) -> Sent
+        ensures reply { IfSome (owed answer.ticket.number self.old) (λ t. result ≡ Sent.Reply t.conn t.xid answer.body) }
+        ensures cancelled { (result ≡ Sent.Cancelled) ↔ (owed answer.ticket.number self.old ≡ None) }
+        ensures after { self.new ≡ answered answer.ticket.number self.old }
+        ensures sound { IsSound self.new }
+    {
+        let Answer { ticket, body } = answer;
+        match self.waiting.remove(&ticket.number) {
+            Some(asker) => {
+                self.sent += 1;
+                Sent::Reply {
+                    conn: asker.conn,
+                    xid: asker.xid,
+                    body,
+                }
+            }
+            None => Sent::Cancelled,
+        }
+    }
+
+    /// Spends the ticket without a reply. Its number waits no more. Takes no memory.
+    pub fn drop_ticket(&mut self, ticket: Ticket)
+        ensures after { self.new ≡ dropped ticket.number self.old }
+        ensures sound { IsSound self.new }
+    {
+        let _ = self.waiting.remove(&ticket.number);
+    }
+
+    /// Ends a connection: none of its numbers waits any more. Takes no memory.
+    pub fn cancel_conn(&mut self, conn: u32)
+        ensures after { self.new ≡ cancelled conn self.old }
+        ensures sound { IsSound self.new }
+    {
+        self.waiting.retain(|_, asker| asker.conn != conn);
+    }
+
+    /// How many replies were sent.
+    pub fn sent(&self) -> u64
+        ensures value { result ≡ self.now.sent }
+        ensures sound { IsSound self.now }
+    {
+        self.sent
+    }
+
+    /// How many numbers wait.
+    pub fn waiting(&self) -> usize
+        ensures value { result ≡ length self.now.waiting }
+        ensures sound { IsSound self.now }
+    {
+        self.waiting.len()
+    }
+}

@@ -1,0 +1,8 @@
+//! Tickets: each request that a server takes on is owed at most one reply, and the desk keeps which are still owed.
+#![tactic(auto)]
+
+mod answer;
+mod desk;
+
+pub use answer::{Answer, Body};
+pub use desk::{IssueFault, ReplyDesk, Sent, Ticket};
