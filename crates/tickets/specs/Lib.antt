@@ -1,3 +1,4 @@
 pub mod Told
 pub mod Desk
 pub mod Entries
+pub mod Laws

@@ -1,6 +1,7 @@
 // The desk, and the tickets that it issues.
-ghost use Rattle.std.specs.Prelude.{◌≡◌, ◌-◌, ◌^◌, ◌↔◌, length, IfOk, OnOk, OnErr, IfSome, Option, None};
+ghost use Rattle.std.specs.Prelude.{◌≡◌, ◌-◌, ◌^◌, ◌↔◌, length, IfOk, OnOk, OnErr, IfSome, Option, None, option_map};
 ghost use Rattle.tickets.specs.Desk.{new_desk, owed, next_ticket, issued, answered, dropped, cancelled, IsSound};
+ghost use Rattle.tickets.specs.Entries.{ticket_of};
 
 use crate::{Answer, Body};
 use std::alloc::Global;
@@ -80,15 +81,14 @@ pub struct ReplyDesk {
 }
 
 impl Model for ReplyDesk {
-    ghost use Rattle.std.specs.Prelude.{map};
     ghost use Rattle.tickets.specs.Desk.{DeskState, IsSound};
-    ghost use Rattle.tickets.specs.Entries.{tickets_of};
+    ghost use Rattle.tickets.specs.Entries.{desk_of};
 
     ghost Value = { DeskState };
 
-    ghost view = { λ d. record { last = d.last; waiting = tickets_of d.waiting.entries; sent = d.sent } };
+    ghost view = { λ d. desk_of d.last d.waiting.entries d.sent };
 
-    ghost invariant = { λ d. IsSound (record { last = d.last; waiting = tickets_of d.waiting.entries; sent = d.sent }) };
+    ghost invariant = { λ d. IsSound (desk_of d.last d.waiting.entries d.sent) };
 }
 
 impl ReplyDesk {
@@ -131,17 +131,21 @@ impl ReplyDesk {
         ensures sound { IsSound self.new }
     {
         let Answer { ticket, body } = answer;
-        match self.waiting.remove(&ticket.number) {
-            Some(asker) => {
-                self.sent += 1;
-                Sent::Reply {
-                    conn: asker.conn,
-                    xid: asker.xid,
-                    body,
-                }
-            }
+        match self.take_asker(ticket.number) {
+            Some(Asker { conn, xid }) => Sent::Reply { conn, xid, body },
             None => Sent::Cancelled,
         }
+    }
+
+    // Who waits under a number, who then waits no more and is counted as answered.
+    fn take_asker(&mut self, number: u64) -> Option<Asker>
+        ensures asker { option_map (ticket_of number) result ≡ owed number self.old }
+        ensures after { self.new ≡ answered number self.old }
+        ensures sound { IsSound self.new }
+    {
+        let asker = self.waiting.remove(&number)?;
+        self.sent += 1;
+        Some(asker)
     }
 
     /// Spends the ticket without a reply. Its number waits no more. Takes no memory.

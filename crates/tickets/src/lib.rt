@@ -3,6 +3,8 @@
 
 mod answer;
 mod desk;
+mod laws;
 
 pub use answer::{Answer, Body};
 pub use desk::{IssueFault, ReplyDesk, Sent, Ticket};
+pub use laws::{number_laws, reply_laws};
