@@ -1,12 +1,12 @@
 -- Answers of the program, as those of the definitions, and what a call on the open file leaves.
-use Rattle.std.specs.Prelude.{◌≡◌, ℕ, ◌+◌, ◌≤◌, ◌==◌, max, Bool, true, false, List, [], ◌∷◌, ◌++◌, length, take, Option, Some, None, if◌then◌else◌}
+use Rattle.std.specs.Prelude.{◌≡◌, ℕ, ◌+◌, ◌≤◌, ◌==◌, Bool, true, false, List, [], ◌∷◌, ◌++◌, length, Option, Some, None, if◌then◌else◌}
 use Rattle.gw_model.specs.declared.Stable.{Stable}
 use Rattle.gw_model.specs.declared.Stable.TheVariants.{Unstable, DataSync, FileSync}
 use Rattle.gw_outside.specs.Causes.{Rose}
 use Rattle.gw_model.specs.Ahead.{Called, next_call}
 use Rattle.gw_model.specs.File as model
 use Rattle.gw_model.specs.File.{Wrote, NotWritten, Committed, NotCommitted, Gave, NotGiven, SystemErr, Silence, Writer}
-use Rattle.gw_model.specs.Admission.{same_bytes}
+use Rattle.gw_model.specs.Admission.{io, same_bytes, answer_if}
 use Rattle.gw_model.specs.Writer.{do_job, range_of}
 use Rattle.gw_model.specs.Sides.{Told, side_write}
 use Rattle.tickets.specs.Desk.{TicketId, DeskState}
@@ -59,13 +59,23 @@ IsVerdict verdict.Held ticket call old new = Placed old (side_write unlimited ol
 IsVerdict (verdict.Dropped t) ticket call old new = Placed old (side_write unlimited old.side (request ticket.number call)) new (record { ticket = t.number; body = Silence } ∷ [])
 IsVerdict (verdict.NoMemory t) ticket call old new = (t ≡ ticket) × (new ≡ old)
 
--- Bytes were appended behind what is stored, or a front of them.
-abbrev pub IsAppended : Type 0 → ℕ → List ℕ → Bool → Writer → Writer → List ℕ → List ℕ → ℕ → ℕ → Type 0
-IsAppended tells start bytes true old new content content' faults faults' =
-    (new ≡ record old { stored = max old.stored (start + length bytes) }) × (tells → content' ≡ content ++ bytes) × (faults ≤ faults')
-IsAppended tells start bytes false old new content content' faults faults' =
-    (kept : ℕ) × (kept ≤ length bytes) × (new ≡ record old { stored = old.stored + kept; failed = Some (record { stored = old.stored + kept; kept = kept }) })
-    × (tells → content' ≡ content ++ take kept bytes) × (faults ≤ faults') × Rose faults faults'
+abbrev pub put_job : ℕ → ℕ → List ℕ → ℕ → Option ℕ → model.Job
+put_job number start bytes asked ticket = record { task = model.Put number start bytes asked Unstable None; ticket = ticket }
+
+abbrev pub put_body : Bool → ℕ → model.Body
+put_body true asked = Wrote asked Unstable
+put_body false asked = NotWritten io
+
+-- Bytes were put, or not: the calls that were made and the bytes that came into the file, whatever calls come later.
+pub record IsPut (tells : Type 0) (start : ℕ) (bytes : List ℕ) (done : Bool) (old new : Writer) (content content' : List ℕ) (faults faults' : ℕ) : Type 0 where
+  pub calls : List Called
+  pub put : List ℕ
+  pub next : (number asked : ℕ) (ticket : Option ℕ) (all : List ℕ) (later : List Called)
+      → do_job (put_job number start bytes asked ticket) all old (ahead_of (calls ++ later)) ≡ record { writer = new; answers = answer_if ticket (put_body done asked); ahead = ahead_of later }
+  pub puts : (number asked : ℕ) (later : List Called) → put_by old.failed (model.Put number start bytes asked Unstable None) (next_call (ahead_of (calls ++ later))).called ≡ put
+  pub leaves : tells → content' ≡ content ++ put
+  pub fails : Fails calls faults faults'
+  pub later : faults ≤ faults'
 
 -- Bytes were compared with those of the file, which stays as it is.
 abbrev pub IsCompared : Type 0 → ℕ → List ℕ → Compared → List ℕ → List ℕ → ℕ → ℕ → Type 0

@@ -1,7 +1,7 @@
 // The writer of an open file: what is stored of it, and whether an append failed.
 ghost use Rattle.std.specs.Prelude.{◌≡◌, ℕ, ◌<◌, ◌≤◌, ◌+◌, ◌∷◌, ◌^◌, [], IfOk, None, is_some, length};
 ghost use Rattle.nfsgw.specs.Held.{job_of, writer_with, IsBelow};
-ghost use Rattle.nfsgw.specs.Answers.{answer_of, answers_of, AreWrite, IsWrite, Works, IsAppended, IsCompared};
+ghost use Rattle.nfsgw.specs.Answers.{answer_of, answers_of, AreWrite, IsWrite, Works, IsPut, IsCompared};
 ghost use Rattle.nfsgw.specs.declared.held.Job.TheVariants.{Put as PutJob, Compare as CompareJob};
 
 use crate::answer::{IO, INVAL, refused, wrote};
@@ -87,13 +87,14 @@ impl FileWriter {
         self.failure.is_some()
     }
 
-    /// Appends bytes that begin at `start`, where what is stored ends.
+    /// Appends bytes that begin at `start`, where what is stored ends. Says whether it was done.
     fn append<F: AppendFile>(&mut self, file: &mut F, start: u64, bytes: &[u8]) -> bool
         requires working { self.old.failed ≡ None }
         requires behind { self.old.stored ≤ start }
         requires fits { start + length bytes.now < 2 ^ 64 }
         requires some { 0 < length bytes.now }
-        ensures appended { IsAppended F.tells start bytes.now result self.old self.new (F.content file.old) (F.content file.new) (F.count file.old) (F.count file.new) }
+        ensures put { IsPut F.tells start bytes.now result self.old self.new (F.content file.old) (F.content file.new) (F.count file.old) (F.count file.new) }
+        ensures behind { IsBelow self.new (start + length bytes.now) }
         ensures same { F.mark file.new ≡ F.mark file.old }
     {
         match file.append(bytes) {
@@ -112,6 +113,23 @@ impl FileWriter {
         }
     }
 
+    /// Puts bytes, perhaps none, behind what is stored. Says whether it was done: not after an append failed.
+    fn put_bytes<F: AppendFile>(&mut self, file: &mut F, start: u64, bytes: &[u8]) -> bool
+        requires behind { IsBelow self.old start }
+        requires fits { start + length bytes.now < 2 ^ 64 }
+        ensures put { IsPut F.tells start bytes.now result self.old self.new (F.content file.old) (F.content file.new) (F.count file.old) (F.count file.new) }
+        ensures behind { IsBelow self.new (start + length bytes.now) }
+        ensures same { F.mark file.new ≡ F.mark file.old }
+    {
+        if self.failure.is_some() {
+            return false;
+        }
+        if bytes.is_empty() {
+            return true;
+        }
+        self.append(file, start, bytes)
+    }
+
     /// Does a Put: its bytes, which may be none, come behind what is stored.
     pub fn put<F: AppendFile>(
         &mut self,
@@ -128,8 +146,7 @@ impl FileWriter {
         ensures behind { IsBelow self.new (start + length content.now) }
         ensures same { F.mark file.new ≡ F.mark file.old }
     {
-        let done = self.failure.is_none()
-            && (content.is_empty() || self.append(file, start, content.as_slice()));
+        let done = self.put_bytes(file, start, content.as_slice());
         let ticket = ticket?;
         if done {
             Some(wrote(ticket, asked))

@@ -15,6 +15,7 @@ use crate::file_writer::FileWriter;
 use crate::held::{Job, PendingWrite, Repeat, look_up, put_pending, release_all};
 use crate::history::{push_context, push_ended, push_write};
 use append_store::AppendFile;
+use gw_model::kept_part;
 use std::alloc::{AllocError, Global};
 use std::collections::VecDeque;
 use std::marker::Model;
@@ -162,11 +163,14 @@ impl OpenFile {
             mut content,
         } = call;
         let asked = content.len() as u32;
-        content.advance(self.reach.saturating_sub(offset) as usize);
+        let Some((start, count)) = kept_part(self.reach, offset, asked) else {
+            unreachable!();
+        };
+        content.advance((asked - count) as usize);
         let (kept, owed) = split_ticket(ticket, self.reach < offset);
         let entry = PendingWrite {
             number: self.ranges.len() as u64 + 1,
-            offset: self.reach.max(offset),
+            offset: start,
             content,
             asked,
             ticket: kept,
