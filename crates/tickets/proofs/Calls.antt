@@ -1,10 +1,10 @@
 -- The laws of a desk over any list of calls.
-use Rattle.std.proofs.Common.{◌≡◌, ◌≢◌, ℕ, ◌+◌, ◌<◌, ◌≤◌, Bool, true, false, not, cond, List, [], ◌∷◌, ◌++◌, length, Option, None, Some, refl, sym, ◌∙◌, ap, subst, arith, inl, inr, add-zero, append_assoc}
-use Rattle.std.specs.Prelude.{◌==◌, ◌⊎◌, find, filter, is_some, All, Contains, option_map}
+use Rattle.std.proofs.Common.{◌≡◌, ◌≢◌, ℕ, ◌+◌, ◌<◌, ◌≤◌, Bool, true, false, not, cond, List, [], ◌∷◌, ◌++◌, length, Option, None, Some, refl, sym, ◌∙◌, ap, subst, arith, inl, inr, append_assoc}
+use Rattle.std.specs.Prelude.{◌==◌, ◌⊎◌, find, filter, is_some, All, Contains}
 use Rattle.std.specs.List.{cons_option}
 use Rattle.std.proofs.lemmas.Bool.{eqb-true, eqb-false, ne_eqb, eq-eqb}
 use Rattle.std.proofs.lemmas.List.Elements.{All-nil, All-cons, All-weaker, All-filter, All-contains, All-contains_itself, Contains-append_left, Contains-append_right, Contains-append_cases, Contains-push}
-use Rattle.tickets.specs.Desk.{TicketId, DeskState, new_desk, owed, next_ticket, issued, answered, dropped, cancelled, RiseFrom, AreUpTo, IsSound}
+use Rattle.tickets.specs.Desk.{TicketId, DeskState, owed, next_ticket, issued, answered, dropped, cancelled, RiseFrom, AreUpTo, IsSound}
 use Rattle.tickets.specs.Laws.{Call, Issue, Refused, Send, DropTicket, CancelConn, after, after_all, issue_of, reply_of, issues, replies, replies_to, StaysSound, AtMostOneReply, NeverWaitsAgain, WaitsNoMore, CancelsAll, NumbersRise, RepliesToAskers, CountsReplies, FindsItsTicket}
 use Rattle.tickets.proofs.Sound.{sound_new, sound_issued, sound_answered, sound_dropped, sound_cancelled}
 

@@ -1,14 +1,14 @@
 -- The desk's map as its tickets: what a change of the map does to them.
-use Rattle.std.proofs.Common.{◌≡◌, ℕ, ◌+◌, ◌<◌, ◌≤◌, Bool, true, false, not, cond, List, [], ◌∷◌, ◌++◌, map, Option, None, Some, refl, sym, ◌∙◌, ap, arith, inl, inr}
+use Rattle.std.proofs.Common.{◌≡◌, ℕ, ◌+◌, ◌<◌, ◌≤◌, Bool, true, false, not, cond, List, [], ◌∷◌, ◌++◌, Option, None, Some, refl, sym, ◌∙◌, ap, arith}
 use Rattle.std.specs.Prelude.{◌==◌, find, filter, option_map, is_some}
 use Rattle.std.specs.Ordering.{nat_cmp, match_ordering}
-use Rattle.std.specs.declared.cmp.Ordering.TheVariants.{Less, Equal, Greater}
+use Rattle.std.specs.declared.cmp.Ordering.TheVariants.{Greater}
 use Rattle.std.specs.Cmp.{nat_cmp_is}
 use Rattle.std.specs.BTreeMap.{insert_entry, is_at}
 use Rattle.std.specs.Map.{remove_entry, lookup}
 use Rattle.std.proofs.lemmas.Bool.{eqb-true, ne_eqb}
 use Rattle.tickets.specs.declared.desk.Asker.{Asker}
-use Rattle.tickets.specs.Desk.{TicketId, DeskState, RiseFrom, AreUpTo, IsSound, owed, issued, answered, dropped, cancelled}
+use Rattle.tickets.specs.Desk.{TicketId, RiseFrom, AreUpTo, IsSound, issued, answered, dropped, cancelled}
 use Rattle.tickets.specs.Entries.{ticket_of, tickets_of, desk_of}
 
 -- An entry above all others comes last.

@@ -1,7 +1,7 @@
 -- Each call leaves a sound desk sound.
-use Rattle.std.proofs.Common.{◌≡◌, ℕ, ◌+◌, ◌<◌, ◌≤◌, Bool, true, false, not, cond, List, [], ◌∷◌, ◌++◌, length, Option, None, Some, refl, sym, ◌∙◌, ap, arith, length-append}
+use Rattle.std.proofs.Common.{ℕ, ◌+◌, ◌<◌, ◌≤◌, Bool, true, false, not, cond, List, [], ◌∷◌, ◌++◌, length, Some, arith, length-append}
 use Rattle.std.specs.Prelude.{◌==◌, find, filter, is_some}
-use Rattle.tickets.specs.Desk.{TicketId, DeskState, new_desk, owed, next_ticket, issued, answered, dropped, cancelled, RiseFrom, AreUpTo, IsSound}
+use Rattle.tickets.specs.Desk.{TicketId, DeskState, new_desk, next_ticket, issued, answered, dropped, cancelled, RiseFrom, AreUpTo, IsSound}
 
 RiseFrom-lower : (ts : List TicketId) (low low' : ℕ) → low' ≤ low → RiseFrom low ts → RiseFrom low' ts
 RiseFrom-lower [] low low' le rise = tt

@@ -1,5 +1,5 @@
 -- What contracts see of a ticket and of a desk, and what each call leaves of a desk.
-use Rattle.std.specs.Prelude.{ℕ, ◌+◌, ◌<◌, ◌≤◌, ◌==◌, not, if◌then◌else◌, Option, Some, None, is_some, List, [], ◌∷◌, ◌++◌, length, filter, find}
+use Rattle.std.specs.Prelude.{ℕ, ◌+◌, ◌<◌, ◌≤◌, ◌==◌, not, if◌then◌else◌, Option, is_some, List, [], ◌∷◌, ◌++◌, length, filter, find}
 
 -- who asked, the number of the reply that is owed, and the number that the asker gave its request
 pub record TicketId : Type 0 where

@@ -1,4 +1,3 @@
-pub mod Told
 pub mod Desk
 pub mod Entries
 pub mod Laws

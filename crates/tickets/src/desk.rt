@@ -180,3 +180,67 @@ impl ReplyDesk {
         self.waiting.len()
     }
 }
+
+#[cfg(test)]
+mod tests {
+    use super::*;
+    use std::test::Fail;
+
+    #[test]
+    fn a_number_is_answered_once(rt: HostRuntime) -> Result<(), Fail> {
+        let mut desk = ReplyDesk::new(rt.alloc());
+        let first = desk.issue(7, 100)?;
+        let second = desk.issue(8, 200)?;
+        assert_eq!(rt; (first.conn(), first.number(), first.xid()), (7, 1, 100));
+        assert_eq!(rt; (second.conn(), second.number(), second.xid()), (8, 2, 200));
+
+        let reply = desk.send(Answer {
+            ticket: second,
+            body: Body::Commit { status: 5 },
+        });
+        let expected = Sent::Reply {
+            conn: 8,
+            xid: 200,
+            body: Body::Commit { status: 5 },
+        };
+        assert_eq!(rt; reply, expected);
+        assert_eq!(rt; (desk.sent(), desk.waiting()), (1, 1));
+
+        desk.drop_ticket(first);
+        assert_eq!(rt; (desk.sent(), desk.waiting()), (1, 0));
+        Ok(())
+    }
+
+    #[test]
+    fn a_connection_that_ended_gets_no_reply(rt: HostRuntime) -> Result<(), Fail> {
+        let mut desk = ReplyDesk::new(rt.alloc());
+        let ended = desk.issue(7, 100)?;
+        let other = desk.issue(8, 100)?;
+        desk.cancel_conn(7);
+        assert_eq!(rt; desk.waiting(), 1);
+        let body = Body::SystemErr;
+        let late = desk.send(Answer {
+            ticket: ended,
+            body,
+        });
+        assert_eq!(rt; late, Sent::Cancelled);
+
+        // a number isn't given out again, and a ticket that is lost leaves its number waiting
+        assert_eq!(rt; desk.issue(7, 100)?.number(), 3);
+        assert_eq!(rt; (desk.sent(), desk.waiting()), (0, 2));
+        desk.drop_ticket(other);
+        assert_eq!(rt; desk.waiting(), 1);
+        Ok(())
+    }
+
+    #[test]
+    fn a_ticket_of_another_desk_is_not_owed(rt: HostRuntime) -> Result<(), Fail> {
+        let mut desk = ReplyDesk::new(rt.alloc());
+        let mut another = ReplyDesk::new(rt.alloc());
+        let ticket = another.issue(7, 100)?;
+        let body = Body::Text(Vec::new(rt.alloc()));
+        assert_eq!(rt; desk.send(Answer { ticket, body }), Sent::Cancelled);
+        assert_eq!(rt; (another.sent(), another.waiting()), (0, 1));
+        Ok(())
+    }
+}

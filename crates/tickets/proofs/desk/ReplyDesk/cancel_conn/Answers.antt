@@ -1,8 +1,7 @@
-use Rattle.std.proofs.Common.{rules, ◌≡◌, ℕ, List, not, sym, ◌∙◌, ap, subst}
-use Rattle.std.specs.Prelude.{◌==◌, filter}
+use Rattle.std.proofs.Common.{rules, ◌≡◌, not, sym, ◌∙◌, ap, subst}
+use Rattle.std.specs.Prelude.{◌==◌}
 use Rattle.std.proofs.lemmas.Map.Made.{filter_same_pairs}
-use Rattle.tickets.specs.declared.desk.Asker.{Asker}
-use Rattle.tickets.specs.Desk.{DeskState, cancelled, IsSound}
+use Rattle.tickets.specs.Desk.{cancelled, IsSound}
 use Rattle.tickets.specs.Entries.{desk_of}
 use Rattle.tickets.proofs.Entries.{desk_of-filter}
 use Rattle.tickets.proofs.Sound.{sound_cancelled}

@@ -1,5 +1,5 @@
-use Rattle.std.proofs.Common.{◌≡◌, sym, ◌∙◌, ap, subst}
-use Rattle.tickets.specs.Desk.{DeskState, dropped, IsSound}
+use Rattle.std.proofs.Common.{sym, ◌∙◌, subst}
+use Rattle.tickets.specs.Desk.{dropped, IsSound}
 use Rattle.tickets.proofs.Entries.{desk_of-remove_entry}
 use Rattle.tickets.proofs.Sound.{sound_dropped}
 use Rattle.tickets.proofs.desk.ReplyDesk.drop_ticket.Goals as goal

@@ -1,5 +1,5 @@
-use Rattle.std.proofs.Common.{◌≡◌, sym, ◌∙◌, ap, subst}
-use Rattle.tickets.specs.Desk.{DeskState, issued, IsSound}
+use Rattle.std.proofs.Common.{sym, ◌∙◌, ap, subst}
+use Rattle.tickets.specs.Desk.{issued, IsSound}
 use Rattle.tickets.proofs.Entries.{desk_of-insert_entry}
 use Rattle.tickets.proofs.Sound.{sound_issued}
 use Rattle.tickets.proofs.desk.ReplyDesk.issue.Goals as goal

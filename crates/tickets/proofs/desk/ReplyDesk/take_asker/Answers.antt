@@ -1,6 +1,6 @@
-use Rattle.std.proofs.Common.{◌≡◌, ◌+◌, Option, Some, None, refl, sym, ◌∙◌, ap, subst, arith}
+use Rattle.std.proofs.Common.{◌≡◌, ◌+◌, Some, None, refl, sym, ◌∙◌, ap, subst, arith}
 use Rattle.std.specs.Prelude.{option_map}
-use Rattle.tickets.specs.Desk.{DeskState, owed, answered, IsSound}
+use Rattle.tickets.specs.Desk.{owed, answered, IsSound}
 use Rattle.tickets.specs.Entries.{ticket_of, desk_of}
 use Rattle.tickets.proofs.Entries.{find-tickets_of, desk_of-answered}
 use Rattle.tickets.proofs.Sound.{sound_answered}
