@@ -1,5 +1,6 @@
 -- What a WRITE and a turn come to, case by case.
-use Rattle.std.proofs.Common.{◌≡◌, ◌≢◌, ℕ, ◌+◌, ◌<◌, ◌≤◌, ◌↔◌, nat_le, nat_lt, Bool, true, false, Option, None, Some, List, [], ◌∷◌, ◌++◌, length, refl, sym, ◌∙◌, ap, subst, append-nil, ◌⊎◌, inl, inr, IfSome, arith}
+use Rattle.std.proofs.Common.{◌≡◌, ◌≢◌, ℕ, ◌+◌, ◌<◌, ◌≤◌, ◌↔◌, nat_le, nat_lt, Bool, true, false, Option, None, Some, List, [], ◌∷◌, ◌++◌, length, refl, sym, ◌∙◌, ap, subst, append-nil, ◌⊎◌, inl, inr, IfSome, Result, Ok, Err, IfOk, OnErr, arith}
+use Rattle.gw_outside.specs.Causes.{Rose}
 use Rattle.std.specs.Prelude.{◌^◌, ◌==◌, is_none, if◌then◌else◌}
 use Rattle.std.proofs.lemmas.Bool.{cases_lt}
 use Rattle.std.proofs.lemmas.Bool.Decides.{nat_tests}
@@ -17,9 +18,10 @@ use Rattle.tickets.specs.declared.desk.Sent.{Sent as SentTerm}
 use Rattle.tickets.specs.declared.desk.Sent.TheVariants as sent
 use Rattle.nfsgw.specs.Text.{reply_line}
 use Rattle.nfsgw.specs.Headline.{Fails, ahead_of}
-use Rattle.nfsgw.specs.World.{Sent, send, told_to, spent, reply_bytes, request}
+use Rattle.gw_model.specs.Sides.{side_write}
+use Rattle.nfsgw.specs.World.{Sent, send, told_to, spent, reply_bytes, request, unlimited}
 use Rattle.nfsgw.specs.Steps.{Context, State, Step, fresh, says, placed, write_if, put_by, with_line, turn_line, turn_of, step_of}
-use Rattle.nfsgw.specs.Answers.{answer_of, body_of, level_of, IsWrite, IsDone, Works, Untouched}
+use Rattle.nfsgw.specs.Answers.{answer_of, body_of, level_of, IsWrite, IsDone, Placed, Works}
 use Rattle.nfsgw.specs.Outside.{IsStep, IsCut, Opens, IsOpened, Took, TakesIn}
 use Rattle.nfsgw.specs.declared.call.WriteCall.{WriteCall}
 use Rattle.nfsgw.specs.declared.grammar.Event.TheVariants.{Write, Turn}
@@ -277,13 +279,32 @@ done_beside tells old new answers body body' n faults faults' s =
       later = omega (arith, l);
     }
 
--- nothing was put where memory was wanted
-pub cut_untouched : (tells : Type 0) (event : _) (old : State) (body body' : List ℕ) (faults faults' : ℕ) → Untouched tells body body' faults faults' → IsCut tells event old body body' faults faults'
-cut_untouched tells event old body body' faults faults' u = record {
-  calls = [];
-  put = [];
-  front = λ told later. ((step_of body old event (ahead_of later)).put, refl);
-  puts = λ told. u.puts told ∙ sym (append-nil body);
-  fails = let l = u.later in omega (arith, l);
-  later = u.later;
+-- results
+
+pub if_ok : {T E : Type 0} {P Q : T → Type 0} (r : Result T E) → ((t : T) → P t → Q t) → IfOk r P → IfOk r Q
+if_ok (Ok t) f p = f t p
+if_ok (Err e) f p = tt
+
+pub always_err : {T E : Type 0} {Q : Type 0} (r : Result T E) → Q → OnErr r Q
+always_err (Ok t) q = tt
+always_err (Err e) q = q
+
+-- the body wasn't taken
+pub open_lost : (tells : Type 0) (opened : Option Context) (desk : DeskState) (body body' : List ℕ) (faults faults' : ℕ) → opened ≡ None → (tells → body' ≡ body) → Rose faults faults' → faults ≤ faults'
+    → IsOpened tells false opened desk (record { opened = opened; desk = desk }) body body' faults faults'
+open_lost tells (Some c) desk body body' faults faults' none puts rose later = absurd (cc none)
+open_lost tells None desk body body' faults faults' none puts rose later = record {
+  called = Bad 0;
+  took = tt;
+  same = refl;
+  puts = puts;
+  fails = omega (arith, rose);
+  later = later;
 }
+
+-- a write that was taken in, with its answers
+pub takes_in : (n : ℕ) (call : WriteCall) (c d : Context) (desk : DeskState) (new : State) (text : List ℕ) (answers : List Answer) → Placed c (side_write unlimited c.side (request n call)) d answers
+    → new ≡ record { opened = Some d; desk = (send desk answers).desk } → text ≡ (send desk answers).text → TakesIn n call (Some c) desk new text
+takes_in n call c d desk new text answers p is said = λ t.
+    ap (λ as. says (Some (record c { side = (side_write unlimited c.side (request n call)).side })) desk as [] t) p.1
+    ∙ ap (λ x. says (Some x) desk answers [] t) (sym p.0) ∙ sym (rw (is, said) refl)
