@@ -2,3 +2,10 @@ mod CallParts
 mod CallLaw
 mod NameLaw
 mod GrammarLaw
+pub mod Lines
+pub mod Told
+pub mod StepCases
+pub mod Runs
+pub mod Ready
+pub mod Finishes
+pub mod Scripts
