@@ -6,3 +6,10 @@ pub mod Waits
 pub mod Meeting
 pub mod Working
 pub mod StepWrites
+pub mod Lines
+pub mod Told
+pub mod StepCases
+pub mod Runs
+pub mod Ready
+pub mod Finishes
+pub mod Scripts
