@@ -13,3 +13,4 @@ pub mod Runs
 pub mod Ready
 pub mod Finishes
 pub mod Scripts
+pub mod Entering

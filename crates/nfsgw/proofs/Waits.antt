@@ -5,7 +5,7 @@ use Rattle.std.specs.Option.{option_map}
 use Rattle.std.proofs.lemmas.Bool.Decides.{nat_tests}
 use Rattle.gw_model.specs.Order.{Accepted, put_in, first_reached}
 use Rattle.gw_model.specs.Admission.{same_range, repeat_of, WriteRequest}
-use Rattle.nfsgw.specs.Held.{write_of, writes_of, put_entry, AllEnd, Follow, repeat_in, working}
+use Rattle.nfsgw.specs.Held.{write_of, writes_of, put_entry, Ends, AllEnd, Follow, repeat_in, working}
 use Rattle.nfsgw.specs.declared.held.PendingWrite.{PendingWrite}
 use Rattle.nfsgw.specs.declared.held.Job.{Job}
 use Rattle.nfsgw.specs.declared.held.Job.TheVariants.{Put, Compare}
@@ -26,7 +26,7 @@ length-put_entry e (x ∷ xs) =
     elim (nat_le x.offset e.offset) as (λ b. length (cond b (x ∷ put_entry e xs) (e ∷ x ∷ xs)) ≡ length (x ∷ xs) + 1)
     [ true ↦ omega (arith, length-put_entry e xs) | false ↦ omega arith ]
 
-pub ends-put_entry : (e : PendingWrite) (es : List PendingWrite) → AllEnd es → e.offset + length e.content < 2 ^ 63 → AllEnd (put_entry e es)
+pub ends-put_entry : (e : PendingWrite) (es : List PendingWrite) → AllEnd es → Ends e → AllEnd (put_entry e es)
 ends-put_entry e [] ends end = (end, tt)
 ends-put_entry e (x ∷ xs) ends end =
     elim (nat_le x.offset e.offset) as (λ b. AllEnd (cond b (x ∷ put_entry e xs) (e ∷ x ∷ xs)))

@@ -28,10 +28,13 @@ abbrev pub put_entry : PendingWrite → List PendingWrite → List PendingWrite
 put_entry e [] = e ∷ []
 put_entry e (x ∷ xs) = if nat_le x.offset e.offset then x ∷ put_entry e xs else e ∷ x ∷ xs
 
--- each ends below 2 ^ 63
+-- it ends below 2 ^ 63, and its request had fewer than 2 ^ 32 bytes
+abbrev pub Ends : PendingWrite → Type 0
+Ends e = (e.offset + length e.content < 2 ^ 63) × (e.asked < 2 ^ 32)
+
 abbrev pub AllEnd : List PendingWrite → Type 0
 AllEnd [] = Unit {0}
-AllEnd (e ∷ es) = (e.offset + length e.content < 2 ^ 63) × AllEnd es
+AllEnd (e ∷ es) = Ends e × AllEnd es
 
 -- how the one of a request's range is met, if there is one
 abbrev pub repeat_in : WriteRequest → List Accepted → Option admission.Repeat

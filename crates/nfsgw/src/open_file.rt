@@ -5,7 +5,7 @@ ghost use Rattle.gw_model.specs.Admission.{Taken};
 ghost use Rattle.gw_model.specs.Sides.{side_write, side_write_by};
 ghost use Rattle.nfsgw.specs.World.{unlimited, request};
 ghost use Rattle.nfsgw.specs.Steps.{fresh, end_history};
-ghost use Rattle.nfsgw.specs.Held.{write_of};
+ghost use Rattle.nfsgw.specs.Held.{write_of, Ends};
 ghost use Rattle.nfsgw.specs.Answers.{answers_of, AreWrite, IsVerdict, IsDone};
 ghost use Rattle.nfsgw.specs.Accepting.{accepted_into};
 
@@ -127,7 +127,7 @@ impl OpenFile {
     /// Takes a write among the accepted ones, and releases what then begins at or below reach. For want of memory it hands
     /// the write back and changes nothing.
     fn accept_entry(&mut self, entry: PendingWrite) -> Result<(), PendingWrite>
-        requires end { entry.offset + length entry.content < 2 ^ 63 }
+        requires ends { Ends entry }
         requires few { length entry.content < 2 ^ 32 }
         requires number { entry.number ≡ length self.old.side.seen.entries + 1 }
         ensures ok { OnOk result (self.new ≡ record self.old { side = accepted_into self.old.side (write_of entry) }) }
