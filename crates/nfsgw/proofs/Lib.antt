@@ -2,3 +2,13 @@ mod CallParts
 mod CallLaw
 mod NameLaw
 mod GrammarLaw
+pub mod Lines
+pub mod Told
+mod Plain
+mod Keeps
+mod Sends
+mod Accepts
+mod Turns
+mod Ends
+mod Bridge
+pub mod Scripts
