@@ -12,3 +12,4 @@ mod Turns
 mod Ends
 mod Bridge
 pub mod Scripts
+mod Rows
