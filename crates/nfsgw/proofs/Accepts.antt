@@ -1,5 +1,5 @@
 -- WRITE: what the definition leaves of a file, and what the program keeps of that.
-use Rattle.std.proofs.Common.{◌≡◌, ℕ, ◌+◌, ◌≤◌, Bool, true, false, Option, None, Some, List, [], ◌∷◌, ◌++◌, length, take, nat_le, refl, sym, ◌∙◌, ap, subst, append-nil, length-append, arith}
+use Rattle.std.proofs.Common.{◌≡◌, ℕ, ◌+◌, ◌≤◌, Bool, true, false, Option, None, Some, List, [], ◌++◌, length, take, nat_le, refl, sym, ◌∙◌, ap, subst, append-nil, length-append, arith}
 use Rattle.std.specs.Prelude.{◌^◌}
 use Rattle.std.proofs.lemmas.List.{take-append-le}
 use Rattle.std.proofs.Math.Seq.{take-length}
@@ -15,12 +15,12 @@ use Rattle.gw_model.proofs.Givings.{open_stands}
 use Rattle.gw_model.proofs.Keeping.{opened_issues, write_issues}
 use Rattle.gw_model.proofs.Storing.{write_same, open_stores, same_stores}
 use Rattle.gw_model.proofs.Growing.{write_grows, line_reaches}
-use Rattle.nfsgw.specs.World.{World, send, unlimited, request, ask, answer, of_step, opened_for, write_in, write_if, do_write, body_in, body_of}
+use Rattle.nfsgw.specs.World.{World, send, unlimited, request, answer, of_step, opened_for, write_in, write_if, do_write, body_in, body_of}
 use Rattle.nfsgw.specs.Steps as steps
 use Rattle.nfsgw.specs.Steps.{Context, State, fresh, says, refuses, placed, taken_by}
 use Rattle.nfsgw.specs.declared.call.WriteCall.{WriteCall}
 use Rattle.nfsgw.proofs.Plain.{IsPlain, not_refused, plain_next}
-use Rattle.nfsgw.proofs.Keeps.{context_of, kept_of, AreWithin, SendsAll, Sound, sound_later, none_struck, stands, OpenSound, open_later, IsGoing, Leads}
+use Rattle.nfsgw.proofs.Keeps.{context_of, kept_of, AreWithin, SendsAll, Sound, none_struck, stands, OpenSound, open_later, IsGoing, Leads}
 use Rattle.nfsgw.proofs.Sends.{Sends, side_sends, in_memory, within_end}
 
 -- A step of the file is what the program says.

@@ -4,7 +4,7 @@ use Rattle.transcript.specs.Script.{max_lines}
 use Rattle.gw_model.specs.Ahead.{Ahead, Called, Good, Bad, next_call}
 use Rattle.nfsgw.specs.World.{World, Turned, next, start, told_of, told_then, made, ask, body_of}
 use Rattle.nfsgw.specs.Headline.{ahead_of}
-use Rattle.nfsgw.specs.Steps.{State, Step, initial, step_of, made_by, gone_of, gone_then}
+use Rattle.nfsgw.specs.Steps.{Step, initial, step_of, made_by, gone_of, gone_then}
 use Rattle.nfsgw.specs.declared.grammar.Event.{Event}
 use Rattle.nfsgw.specs.declared.grammar.Event.TheVariants.{MakeFile, Write, Turn}
 use Rattle.nfsgw.proofs.Told.{IsTold}

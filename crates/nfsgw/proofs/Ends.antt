@@ -1,5 +1,5 @@
 -- The history of the open file is that of the context.
-use Rattle.std.proofs.Common.{◌≡◌, ℕ, ◌+◌, Bool, false, ◌&&◌, ◌||◌, Option, None, Some, List, [], ◌∷◌, map, length, nat_lt, refl, ◌∙◌, ap}
+use Rattle.std.proofs.Common.{◌≡◌, Bool, ◌&&◌, ◌||◌, Option, None, Some, List, [], ◌∷◌, map, length, nat_lt, refl, ◌∙◌, ap}
 use Rattle.std.specs.Prelude.{is_some, if◌then◌else◌}
 use Rattle.std.proofs.Math.Bool.{or-false}
 use Rattle.gw_model.specs.Order.{Accepted, end_of}

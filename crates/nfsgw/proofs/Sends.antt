@@ -6,14 +6,14 @@ use Rattle.std.proofs.lemmas.Bool.Decides.{nat_tests}
 use Rattle.gw_model.specs.declared.limits.Limits.{Limits}
 use Rattle.gw_model.specs.declared.Stable.TheVariants.{Unstable}
 use Rattle.gw_model.specs.Order.{Accepted, Piece, joined, put_in, walk, beyond, reach_past, piece_at}
-use Rattle.gw_model.specs.File.{Put, Compare, Fetch, Settle, Task, Job, Held, Seen, Side, Live, is_stale, is_spilled, ready_weight, memory_weight, place_of}
-use Rattle.gw_model.specs.Admission.{WriteRequest, Lists, send, send_ready, used_at, with_lists, issue, job, put_of, settles_at, waits_at, same_range, Verdict, Barred, Busy, Compared, Again, Taken, judge_new, judge_write, Repeat, Differs, Unanswered, Answered, Takes, repeat_of, accept_side, grown, write_from, same_bytes}
-use Rattle.gw_model.specs.Sides.{InMemory, NonePlaced, side_write, side_write_by, side_again, side_taken}
-use Rattle.gw_model.specs.Sound.{piece_of, pieces_of}
+use Rattle.gw_model.specs.File.{Put, Compare, Fetch, Settle, Task, Job, Held, Seen, Side, Live, is_stale, is_spilled, ready_weight, memory_weight}
+use Rattle.gw_model.specs.Admission.{WriteRequest, Lists, send, send_ready, used_at, issue, job, put_of, settles_at, waits_at, same_range, Verdict, Barred, Busy, Compared, Again, Taken, judge_new, judge_write, Repeat, Differs, Unanswered, Answered, accept_side, write_from, same_bytes}
+use Rattle.gw_model.specs.Sides.{InMemory, NonePlaced, side_write, side_write_by, side_again}
+use Rattle.gw_model.specs.Sound.{pieces_of}
 use Rattle.nfsgw.specs.World.{unlimited, request}
 use Rattle.nfsgw.specs.declared.call.WriteCall.{WriteCall}
 use Rattle.nfsgw.proofs.Lines.{by_test}
-use Rattle.nfsgw.proofs.Keeps.{IsUnstable, AreUnstable, adds, AreWithin, ArePending, SendsAll}
+use Rattle.nfsgw.proofs.Keeps.{AreUnstable, adds, AreWithin, ArePending, SendsAll}
 
 -- jobs
 

@@ -1,5 +1,5 @@
 -- A turn: what the definition leaves of a file, and what the program keeps of that.
-use Rattle.std.proofs.Common.{◌≡◌, ℕ, ◌+◌, ◌-◌, ◌≤◌, max, Bool, true, false, Option, None, Some, List, [], ◌∷◌, ◌++◌, length, take, drop, nat_lt, refl, sym, ◌∙◌, ap, subst, append-nil, length-append, arith}
+use Rattle.std.proofs.Common.{◌≡◌, ℕ, ◌+◌, ◌-◌, ◌≤◌, max, Bool, true, false, Option, None, Some, List, [], ◌∷◌, ◌++◌, length, take, drop, nat_lt, refl, sym, ◌∙◌, ap, subst, append-nil, arith}
 use Rattle.std.specs.Prelude.{min}
 use Rattle.std.proofs.lemmas.List.{take_min, take-take, drop-take}
 use Rattle.std.proofs.Math.Seq.{take-nil, take-length}
@@ -7,7 +7,7 @@ use Rattle.gw_model.specs.declared.Stable.{Stable}
 use Rattle.gw_model.specs.declared.Stable.TheVariants.{Unstable}
 use Rattle.gw_model.specs.Order.{joined, fold}
 use Rattle.gw_model.specs.Ahead.{Ahead, Called, Good, Bad, next_call}
-use Rattle.gw_model.specs.File.{Task, Put, Compare, Fetch, Settle, Job, Answer, Failure, Writer, File, Step, side_of, reach_of, content}
+use Rattle.gw_model.specs.File.{Task, Put, Compare, Fetch, Settle, Job, Answer, Failure, File, Step, side_of, reach_of, content}
 use Rattle.gw_model.specs.Admission.{same_bytes, held}
 use Rattle.gw_model.specs.Writer.{WriterStep, range_of, work, fail, do_by, do_job, appended, compared, turn, turn_in, turn_if, turned, room}
 use Rattle.gw_model.specs.Sound.{pieces_of, IsIssued, IsStored}
