@@ -99,8 +99,8 @@ module _ (f : File) (n ticket : ℕ) (call : WriteCall) (t : Ahead) (s : Sound f
       let told = side_write unlimited (side_of f) q in
       let kept : (let c : Context = record (context_of f) { side = told.side } in c) ≡ context_of g
       = ap (λ x. let c : Context = record (context_of f) { side = x } in c) side_is
-          ∙ ap (λ (base : List ℕ). let c : Context = record { base = length base; side = side_of g; writer = f.writer } in c) (sym same.base)
-          ∙ ap (λ x. let c : Context = record { base = length g.base; side = side_of g; writer = x } in c) (sym same.writer) in
+      ∙ ap (λ (base : List ℕ). let c : Context = record { base = length base; side = side_of g; writer = f.writer } in c) (sym same.base)
+      ∙ ap (λ x. let c : Context = record { base = length g.base; side = side_of g; writer = x } in c) (sym same.writer) in
       file_leads (content f) n w (write unlimited f q t) (record (context_of f) { side = told.side }) told.answers [] t going kept leads.1 (sym leads.3) (written_content ∙ sym (append-nil (content f))) (subst (λ (u : Ahead). IsPlain u.left) (sym leads.3) plain) written_sound
 
 -- the file is opened, and nothing is accepted yet
