@@ -14,3 +14,14 @@ pub mod Ready
 pub mod Finishes
 pub mod Scripts
 pub mod Entering
+pub mod Lines
+pub mod Told
+mod Plain
+mod Keeps
+mod Sends
+mod Accepts
+mod Turns
+mod Ends
+mod Bridge
+pub mod Scripts
+mod Rows
