@@ -13,7 +13,7 @@ use Rattle.gw_model.specs.Sides.{Told, side_write, side_write_by, side_again}
 use Rattle.tickets.specs.Desk.{TicketId}
 use Rattle.nfsgw.specs.World.{unlimited, request}
 use Rattle.nfsgw.specs.Steps.{Context}
-use Rattle.nfsgw.specs.Held.{write_of, writes_of, put_entry, AllEnd, jobs_of, entry_at, entries_from, changed_by, side_with, repeat_in, repeat_is}
+use Rattle.nfsgw.specs.Held.{write_of, writes_of, put_entry, AllEnd, job_of, jobs_of, entry_at, entries_from, changed_by, side_with, repeat_in, repeat_is}
 use Rattle.nfsgw.specs.Accepting.{accepted_into}
 use Rattle.nfsgw.specs.Answers.{Placed}
 use Rattle.nfsgw.specs.declared.held.PendingWrite.{PendingWrite}
@@ -58,10 +58,10 @@ module _ (r top : ℕ) (ps : List PendingWrite) (ranges : List Range) (line : Li
   pub holds_compare : (ticket : TicketId) (call : WriteCall) → call.offset + length call.content ≤ r → length call.content ≤ 1048576 → length line < 2 ^ 64
       → Placed c (side_write unlimited c.side (request ticket.number call)) (context_of r top ps ranges (line ++ Compare call.offset call.content ticket ∷ []) w) []
   holds_compare ticket call le few room =
-      let room' : length (jobs_of line) < 2 ^ 65 = omega (arith, room, length-map line _) in
+      let room' : length (jobs_of line) < 2 ^ 65 = omega (arith, room, length-map line job_of) in
       let is = meets_below r top (writes_of ps) (entries_from 1 ranges) (jobs_of line) (changed_by ranges) ticket.number call le (omega (arith, few))
           ∙ compares r top (writes_of ps) (entries_from 1 ranges) (jobs_of line) (changed_by ranges) ticket.number call room' in
-      (ap (λ js. let x : Context = record c { side = side_with r top (writes_of ps) (entries_from 1 ranges) js (changed_by ranges) } in x) (map-append _ line (Compare call.offset call.content ticket ∷ []))
+      (ap (λ js. let x : Context = record c { side = side_with r top (writes_of ps) (entries_from 1 ranges) js (changed_by ranges) } in x) (map-append job_of line (Compare call.offset call.content ticket ∷ []))
       ∙ ap (λ (t : Told). let x : Context = record c { side = t.side } in x) (sym is), ap (λ (t : Told). t.answers) is)
 
   -- accepted among the writes
@@ -107,7 +107,7 @@ module _ (r top : ℕ) (ps : List PendingWrite) (ranges : List Range) (line : Li
       → side_write unlimited c.side (request ticket call) ≡ side_write_by Taken unlimited c.side (request ticket call)
       → Placed c (side_write unlimited c.side (request ticket call)) (record c { side = accepted_into c.side (write_of e) }) (early_answers (nat_lt r call.offset) (request ticket call))
   takes_entry e ticket call is line_few ps_few taken =
-      let room : length (jobs_of line) + length (writes_of ps) + 1 ≤ 2 ^ 65 = omega (arith, line_few, ps_few, length-map line _, length-map ps _) in
+      let room : length (jobs_of line) + length (writes_of ps) + 1 ≤ 2 ^ 65 = omega (arith, line_few, ps_few, length-map line job_of, length-map ps write_of) in
       let told = taken ∙ takes r top (writes_of ps) (entries_from 1 ranges) (jobs_of line) (changed_by ranges) ticket call (all_here ps) room in
       (ap (λ x. let y : Context = record c { side = accepted_into c.side x } in y) is ∙ ap (λ (t : Told). let x : Context = record c { side = t.side } in x) (sym told),
       ap (λ (t : Told). t.answers) told ∙ go (nat_lt r call.offset))
@@ -130,7 +130,7 @@ module _ (r top : ℕ) (ps : List PendingWrite) (ranges : List Range) (line : Li
       → side_write unlimited c.side (request ticket call) ≡ side_write_by Taken unlimited c.side (request ticket call)
   is_new ticket call none above few entries pending below =
       meets_new r top (writes_of ps) (entries_from 1 ranges) (jobs_of line) (changed_by ranges) ticket call above (none_found (request ticket call) (same_range call.offset (length call.content) (writes_of ps)) none)
-      (omega (arith, few)) (omega (arith, entries, length-entries 1 ranges)) (omega (arith, pending, length-map ps _)) below
+      (omega (arith, few)) (omega (arith, entries, length-entries 1 ranges)) (omega (arith, pending, length-map ps write_of)) below
 
   abbrev repeat_answers : admission.Repeat → ℕ → ℕ → List Answer
   repeat_answers admission.Differs ticket count = record { ticket = ticket; body = NotWritten inval } ∷ []

@@ -14,8 +14,6 @@ pub mod Ready
 pub mod Finishes
 pub mod Scripts
 pub mod Entering
-pub mod Lines
-pub mod Told
 mod Plain
 mod Keeps
 mod Sends
@@ -23,5 +21,4 @@ mod Accepts
 mod Turns
 mod Ends
 mod Bridge
-pub mod Scripts
 mod Rows

@@ -26,38 +26,38 @@ AllHere (w ∷ ws) = (w.place ≡ None) × AllHere ws
 
 pub here-put_in : (w : Accepted) (ws : List Accepted) → w.place ≡ None → AllHere ws → AllHere (put_in w ws)
 here-put_in w [] here all = (here, tt)
-here-put_in w (x ∷ xs) here all = go (nat_le x.offset w.offset)
+here-put_in w (x ∷ xs) here all = go (nat_le x.offset w.offset) (here-put_in w xs here all.1)
   where
-    go : (b : Bool) → AllHere (if b then x ∷ put_in w xs else w ∷ x ∷ xs)
-    go true = (all.0, here-put_in w xs here all.1)
-    go false = (here, all)
+    go : (b : Bool) → AllHere (put_in w xs) → AllHere (if b then x ∷ put_in w xs else w ∷ x ∷ xs)
+    go true rest = (all.0, rest)
+    go false rest = (here, all)
 
 spilled_by : (w : Accepted) (n : ℕ) → w.place ≡ None → is_spilled (put_of (piece_at n w)) ≡ false
 spilled_by w n here = rw here refl
 
 pub walk_here : (n : ℕ) (ws : List Accepted) → AllHere ws → NoneSpilled (map put_of (walk n ws))
 walk_here n [] all = tt
-walk_here n (w ∷ ws) all = go (nat_le w.offset n)
+walk_here n (w ∷ ws) all = go (nat_le w.offset n) (walk_here (n + length (piece_at n w).bytes) ws all.1)
   where
-    go : (b : Bool) → NoneSpilled (map put_of (if b then piece_at n w ∷ walk (n + length (piece_at n w).bytes) ws else []))
-    go true = (spilled_by w n all.0, walk_here (n + length (piece_at n w).bytes) ws all.1)
-    go false = tt
+    go : (b : Bool) → NoneSpilled (map put_of (walk (n + length (piece_at n w).bytes) ws)) → NoneSpilled (map put_of (if b then piece_at n w ∷ walk (n + length (piece_at n w).bytes) ws else []))
+    go true rest = (spilled_by w n all.0, rest)
+    go false rest = tt
 
 pub length-put_in : (w : Accepted) (ws : List Accepted) → length (put_in w ws) ≡ length ws + 1
 length-put_in w [] = refl
-length-put_in w (x ∷ xs) = go (nat_le x.offset w.offset)
+length-put_in w (x ∷ xs) = go (nat_le x.offset w.offset) (length-put_in w xs)
   where
-    go : (b : Bool) → length (if b then x ∷ put_in w xs else w ∷ x ∷ xs) ≡ length (x ∷ xs) + 1
-    go true = omega (arith, length-put_in w xs)
-    go false = omega arith
+    go : (b : Bool) → length (put_in w xs) ≡ length xs + 1 → length (if b then x ∷ put_in w xs else w ∷ x ∷ xs) ≡ length (x ∷ xs) + 1
+    go true rest = omega (arith, rest)
+    go false rest = omega arith
 
 pub length-walk : (n : ℕ) (ws : List Accepted) → length (walk n ws) ≤ length ws
 length-walk n [] = omega arith
-length-walk n (w ∷ ws) = go (nat_le w.offset n)
+length-walk n (w ∷ ws) = go (nat_le w.offset n) (length-walk (n + length (piece_at n w).bytes) ws)
   where
-    go : (b : Bool) → length (if b then piece_at n w ∷ walk (n + length (piece_at n w).bytes) ws else []) ≤ length (w ∷ ws)
-    go true = omega (arith, length-walk (n + length (piece_at n w).bytes) ws)
-    go false = omega arith
+    go : (b : Bool) → length (walk (n + length (piece_at n w).bytes) ws) ≤ length ws → length (if b then piece_at n w ∷ walk (n + length (piece_at n w).bytes) ws else []) ≤ length (w ∷ ws)
+    go true rest = omega (arith, rest)
+    go false rest = omega arith
 
 -- jobs that aren't spilled are all sent where there is room
 

@@ -158,8 +158,8 @@ module _ (tells : Type 0) (conn : ℕ) (call : WriteCall) (old : State) where
         → TakesIn ticket call mid.opened mid.desk new text → IsStep tells (Write conn call) old new text false body body' faults faults'
     write_taken mid new text body body' faults faults' o takes = by old.opened refl o
       where
-        open : (c : Context) → old.opened ≡ Some c → mid ≡ record { opened = Some c; desk = asked } → (tells → body' ≡ body) → faults ≤ faults' → IsStep tells (Write conn call) old new text false body body' faults faults'
-        open c e is puts later =
+        stays : (c : Context) → old.opened ≡ Some c → mid ≡ record { opened = Some c; desk = asked } → (tells → body' ≡ body) → faults ≤ faults' → IsStep tells (Write conn call) old new text false body body' faults faults'
+        stays c e is puts later =
             let placed_is : TakesIn ticket call (Some c) asked new text = subst (λ (m : State). TakesIn ticket call m.opened m.desk new text) is takes in
             record {
               calls = [];
@@ -192,7 +192,7 @@ module _ (tells : Type 0) (conn : ℕ) (call : WriteCall) (old : State) where
         went (Bad kept) (Some c) t closed some same fails later puts = absurd t
 
         by : (opened : Option Context) → old.opened ≡ opened → IsOpened tells true opened asked mid body body' faults faults' → IsStep tells (Write conn call) old new text false body body' faults faults'
-        by (Some c) e o = open c e o.1 o.2 o.3
+        by (Some c) e o = stays c e o.1 o.2 o.3
         by None e o = went o.called mid.opened o.took e refl o.same o.fails o.later o.puts
 
 -- a turn
@@ -230,11 +230,11 @@ pub turn_steps : (tells : Type 0) (old new : State) (c d : Context) (answers : L
     → new ≡ record { opened = Some d; desk = (send old.desk answers).desk } → text ≡ (send old.desk answers).text
     → IsStep tells Turn old new text false body body' faults faults'
 unfolding step_of
-turn_steps tells old new c d answers text body body' faults faults' open done is said = record {
+turn_steps tells old new c d answers text body body' faults faults' there done is said = record {
   calls = done.calls;
   put = done.put;
   next = λ told later.
-      ap (λ o. turn_of o body old.desk (ahead_of (done.calls ++ later))) open ∙ done.next told old.desk later ∙ sym (rw (is, said) refl);
+      ap (λ o. turn_of o body old.desk (ahead_of (done.calls ++ later))) there ∙ done.next told old.desk later ∙ sym (rw (is, said) refl);
   puts = done.puts;
   fails = done.fails;
   later = done.later;
@@ -244,10 +244,10 @@ turn_steps tells old new c d answers text body body' faults faults' open done is
 pub turn_cut : (tells : Type 0) (old : State) (c d : Context) (answers : List Answer) (body body' : List ℕ) (faults faults' : ℕ) → old.opened ≡ Some c → IsDone tells c d answers body body' faults faults'
     → IsCut tells Turn old body body' faults faults'
 unfolding step_of
-turn_cut tells old c d answers body body' faults faults' open done = record {
+turn_cut tells old c d answers body body' faults faults' there done = record {
   calls = done.calls;
   put = done.put;
-  front = λ told later. ([], ap (λ o. (turn_of o body old.desk (ahead_of (done.calls ++ later))).put) open ∙ ap (λ (s : Step). s.put) (done.next told old.desk later) ∙ sym (append-nil done.put));
+  front = λ told later. ([], ap (λ o. (turn_of o body old.desk (ahead_of (done.calls ++ later))).put) there ∙ ap (λ (s : Step). s.put) (done.next told old.desk later) ∙ sym (append-nil done.put));
   puts = done.puts;
   fails = done.fails;
   later = done.later;
@@ -306,5 +306,5 @@ open_lost tells None desk body body' faults faults' none puts rose later = recor
 pub takes_in : (n : ℕ) (call : WriteCall) (c d : Context) (desk : DeskState) (new : State) (text : List ℕ) (answers : List Answer) → Placed c (side_write unlimited c.side (request n call)) d answers
     → new ≡ record { opened = Some d; desk = (send desk answers).desk } → text ≡ (send desk answers).text → TakesIn n call (Some c) desk new text
 takes_in n call c d desk new text answers p is said = λ t.
-    ap (λ as. says (Some (record c { side = (side_write unlimited c.side (request n call)).side })) desk as [] t) p.1
+    ap (λ answers. says (Some (record c { side = (side_write unlimited c.side (request n call)).side })) desk answers [] t) p.1
     ∙ ap (λ x. says (Some x) desk answers [] t) (sym p.0) ∙ sym (rw (is, said) refl)

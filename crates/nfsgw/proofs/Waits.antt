@@ -61,3 +61,14 @@ pub follow_compare : (n to offset : ℕ) (js : List Job) (content : List ℕ) (t
 follow_compare n to offset [] content ticket h few = (few, h)
 follow_compare n to offset (Put k start bytes count t ∷ js) content ticket h few = (h.0, follow_compare (start + length bytes) to offset js content ticket h.1 few)
 follow_compare n to offset (Compare at bytes t ∷ js) content ticket h few = (h.0, follow_compare n to offset js content ticket h.1 few)
+
+-- the first that has a range
+
+pub repeat_here : (q : WriteRequest) (es : List PendingWrite) (k : ℕ) (e : PendingWrite) → k < length es → e ≡ get_or es k e → (e.offset == q.offset) ≡ true → (length e.content == length q.bytes) ≡ true
+    → repeat_in q (writes_of (drop k es)) ≡ Some (repeat_of q (write_of e))
+repeat_here q [] k e lt is at len = absurd (omega (arith, lt))
+repeat_here q (x ∷ xs) zero e lt is at len =
+    let at' : (x.offset == q.offset) ≡ true = subst (λ (y : PendingWrite). (y.offset == q.offset) ≡ true) is at in
+    let len' : (length x.content == length q.bytes) ≡ true = subst (λ (y : PendingWrite). (length y.content == length q.bytes) ≡ true) is len in
+    rw (at', len') (ap (λ (y : PendingWrite). Some (repeat_of q (write_of y))) (sym is))
+repeat_here q (x ∷ xs) (suc k) e lt is at len = repeat_here q xs k e (omega (arith, lt)) is at len

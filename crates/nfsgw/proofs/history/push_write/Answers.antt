@@ -1,0 +1,5 @@
+use Rattle.std.proofs.Common.{◌≡◌}
+use Rattle.nfsgw.proofs.history.push_write.Goals as goal
+
+pub returns : goal.returns
+returns c = rw (← c.fate.ensures c.args.number) c.push_range.ensures
