@@ -165,6 +165,16 @@ module _ (tells : Type 0) (is : Turn) (n : ℕ) (state : State) (left left' held
     run = λ told. short tells body state told is n e.traffic [] left' ns nw nm e.ending (end_history state.opened, refl);
   }
 
+  -- what is to be said of a run that a failure cut off, by how its lines ended
+  abbrev CutRead : Turn → Type 0
+  CutRead x = IsRead (status_by x n) (e.traffic.taken ++ unwrap_or left' []) e.traffic
+
+  abbrev CutRun : Turn → Type 0
+  CutRun x = IsRun (status_by x n) body (e.traffic.taken ++ unwrap_or left' []) e.traffic
+
+  abbrev CutEnding : Turn → Type 0
+  CutEnding x = IsEnding x tells body n e.traffic state left'
+
   pub runs_cut : (is ≡ turn.StoreFault) ⊎ ((is ≡ turn.WriteFault) ⊎ (is ≡ turn.NoMemory)) → Runs tells (status_by is n) before (record { left = left'; held = mid; body = body'; faults = now })
   runs_cut which = record {
     traffic = e.traffic;
@@ -173,21 +183,15 @@ module _ (tells : Type 0) (is : Turn) (n : ℕ) (state : State) (left left' held
     run = λ told. run_of told is which e.ending;
   }
     where
-      read_of : (x : Turn) → (x ≡ turn.StoreFault) ⊎ ((x ≡ turn.WriteFault) ⊎ (x ≡ turn.NoMemory)) → IsRead (status_by x n) (e.traffic.taken ++ unwrap_or left' []) e.traffic
-      read_of x (inl q) = subst (λ y. IsRead (status_by y n) (e.traffic.taken ++ unwrap_or left' []) e.traffic) (sym q) tt
-      read_of x (inr (inl q)) = subst (λ y. IsRead (status_by y n) (e.traffic.taken ++ unwrap_or left' []) e.traffic) (sym q) tt
-      read_of x (inr (inr q)) = subst (λ y. IsRead (status_by y n) (e.traffic.taken ++ unwrap_or left' []) e.traffic) (sym q) tt
+      read_of : (x : Turn) → (x ≡ turn.StoreFault) ⊎ ((x ≡ turn.WriteFault) ⊎ (x ≡ turn.NoMemory)) → CutRead x
+      read_of x (inl q) = subst CutRead (sym q) tt
+      read_of x (inr (inl q)) = subst CutRead (sym q) tt
+      read_of x (inr (inr q)) = subst CutRead (sym q) tt
 
-      abbrev Run : Turn → Type 0
-      Run x = IsRun (status_by x n) body (e.traffic.taken ++ unwrap_or left' []) e.traffic
-
-      abbrev Ending : Turn → Type 0
-      Ending x = IsEnding x tells body n e.traffic state left'
-
-      run_of : tells → (x : Turn) → (x ≡ turn.StoreFault) ⊎ ((x ≡ turn.WriteFault) ⊎ (x ≡ turn.NoMemory)) → Ending x → Run x
-      run_of told x (inl q) g = subst Run (sym q) (whole_is body e.traffic.taken true e.traffic (subst Ending q g told))
-      run_of told x (inr (inl q)) g = subst Run (sym q) (short_is tells body e.traffic.taken e.traffic told (subst Ending q g))
-      run_of told x (inr (inr q)) g = subst Run (sym q) (short_is tells body e.traffic.taken e.traffic told (subst Ending q g))
+      run_of : tells → (x : Turn) → (x ≡ turn.StoreFault) ⊎ ((x ≡ turn.WriteFault) ⊎ (x ≡ turn.NoMemory)) → CutEnding x → CutRun x
+      run_of told x (inl q) g = subst CutRun (sym q) (whole_is body e.traffic.taken true e.traffic (subst CutEnding q g told))
+      run_of told x (inr (inl q)) g = subst CutRun (sym q) (short_is tells body e.traffic.taken e.traffic told (subst CutEnding q g))
+      run_of told x (inr (inr q)) g = subst CutRun (sym q) (short_is tells body e.traffic.taken e.traffic told (subst CutEnding q g))
 
 pub runs_usage : (tells : Type 0) (o : Outside) → Runs tells status.Usage o o
 runs_usage tells o = record { traffic = nothing; moves = Moves-nil tells o; read = refl; run = λ told. tt }

@@ -1,11 +1,10 @@
 -- The steps of the program, case by case.
-use Rattle.std.proofs.Common.{◌≡◌, ℕ, ◌+◌, ◌≤◌, Bool, true, false, List, [], ◌∷◌, ◌++◌, refl, sym, ◌∙◌, ap, subst, append-nil, ◌⊎◌, inl, inr, Result, Ok, Err, IfOk, OnErr, String, Global, string_bytes, arith}
+use Rattle.std.proofs.Common.{◌≡◌, ℕ, ◌+◌, ◌≤◌, Bool, true, false, List, [], ◌∷◌, refl, sym, ◌∙◌, ap, subst, append-nil, ◌⊎◌, inl, inr, Result, Ok, Err, IfOk, OnErr, String, Global, string_bytes, arith}
 use Rattle.std.specs.declared.alloc.AllocError.{AllocError}
 use Rattle.gw_outside.specs.Causes.{Rose}
-use Rattle.gw_model.specs.Ahead.{Called, Good, Bad}
+use Rattle.gw_model.specs.Ahead.{Good, Bad}
 use Rattle.append_store.specs.State.{ObjectState, Missing, Kept, Lent, IsAway, bytes_of}
 use Rattle.append_store.specs.Calls.{Creates, MayCreate}
-use Rattle.nfsgw.specs.Headline.{ahead_of}
 use Rattle.nfsgw.specs.Steps.{State, step_of}
 use Rattle.nfsgw.specs.Answers.{Untouched}
 use Rattle.nfsgw.specs.Outside.{IsStep, IsCut, IsStepped}

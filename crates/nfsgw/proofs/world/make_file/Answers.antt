@@ -2,8 +2,7 @@ use Rattle.std.proofs.Common.{rules}
 use Rattle.gw_outside.specs.Causes.{Rose}
 use Rattle.append_store.specs.State.{bytes_of}
 use Rattle.nfsgw.specs.Outside.{body_id}
-use Rattle.nfsgw.specs.declared.grammar.Event.TheVariants.{MakeFile}
-use Rattle.nfsgw.proofs.StepCases.{make_done, make_failed, creates_same, may_create_same, cut_untouched}
+use Rattle.nfsgw.proofs.StepCases.{make_done, make_failed, make_cut, creates_same, may_create_same}
 use Rattle.nfsgw.proofs.world.make_file.Goals as goal
 
 pub returns-in-Ok-clause-step : goal.returns-in-Ok-clause-step
@@ -21,6 +20,6 @@ returns-in-Err-Fault-clause-step g c = λ s.
 
 pub returns-in-Err-Memory-clause-step : goal.returns-in-Err-Memory-clause-step
 returns-in-Err-Memory-clause-step g c = λ s.
-    cut_untouched g.C.File.AppendFile.tells MakeFile s (bytes_of (g.C.Cluster.at c.args.cluster.now body_id)) (bytes_of (g.C.Cluster.at c.create.new.self body_id))
+    make_cut g.C.File.AppendFile.tells s (bytes_of (g.C.Cluster.at c.args.cluster.now body_id)) (bytes_of (g.C.Cluster.at c.create.new.self body_id))
     (g.C.Cluster.count c.args.cluster.now) (g.C.Cluster.count c.create.new.self)
-    (record { puts = λ told. may_create_same _ _ (c.requires.safe told) (c.in-Err-Memory.ensures.failed told); later = c.in-Err-Memory.ensures.later })
+    (λ told. may_create_same _ _ (c.requires.safe told) (c.in-Err-Memory.ensures.failed told)) c.in-Err-Memory.ensures.later
