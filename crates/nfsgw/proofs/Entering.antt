@@ -1,9 +1,9 @@
 -- A write that enters the context of an open file.
-use Rattle.std.proofs.Common.{◌≡◌, ℕ, ◌+◌, ◌-◌, ◌<◌, ◌≤◌, ◌&&◌, max, Bool, true, false, nat_lt, Option, None, Some, List, [], ◌∷◌, ◌++◌, length, map, drop, refl, sym, ◌∙◌, ap, subst, arith}
+use Rattle.std.proofs.Common.{◌≡◌, ℕ, ◌+◌, ◌-◌, ◌<◌, ◌≤◌, ◌&&◌, max, Bool, true, false, nat_lt, nat_le, Option, None, Some, List, [], ◌∷◌, ◌++◌, length, map, drop, refl, sym, ◌∙◌, ap, subst, arith}
 use Rattle.std.specs.Prelude.{◌^◌, if◌then◌else◌}
 use Rattle.std.specs.Option.{option_map}
 use Rattle.std.proofs.lemmas.List.{map-append, length-map}
-use Rattle.gw_model.specs.Order.{Accepted, put_in, walk, beyond, reach_past}
+use Rattle.gw_model.specs.Order.{Accepted, put_in, walk, beyond, reach_past, part_from}
 use Rattle.gw_model.specs.File as model
 use Rattle.gw_model.specs.File.{Entry, Side, Writer, Answer, Wrote, NotWritten, Silence}
 use Rattle.gw_model.specs.declared.Stable.TheVariants.{Unstable}
@@ -28,7 +28,7 @@ use Rattle.nfsgw.proofs.Meeting.{AllHere, AllBelow, meets_below, meets_again, me
 abbrev pub context_of : ℕ → ℕ → List PendingWrite → List Range → List Job → Writer → Context
 context_of r top ps ranges line w = record { base = w.synced; side = side_with r top (writes_of ps) (entries_from 1 ranges) (jobs_of line) (changed_by ranges); writer = w }
 
-length-entries : (n : ℕ) (rs : List Range) → length (entries_from n rs) ≡ length rs
+pub length-entries : (n : ℕ) (rs : List Range) → length (entries_from n rs) ≡ length rs
 length-entries n [] = refl
 length-entries n (r ∷ rs) = let rest = length-entries (n + 1) rs in omega (arith, rest)
 
@@ -65,14 +65,14 @@ module _ (r top : ℕ) (ps : List PendingWrite) (ranges : List Range) (line : Li
       ∙ ap (λ (t : Told). let x : Context = record c { side = t.side } in x) (sym is), ap (λ (t : Told). t.answers) is)
 
   -- accepted among the writes
-  pub accepts_entry : (e : PendingWrite) (range : Range) (end top' : ℕ) (ps' : List PendingWrite) (line' : List Job) → e.number ≡ length ranges + 1 → range ≡ record { offset = e.offset; count = length e.content }
+  pub accepts_entry : (e : PendingWrite) (range : Range) (end top' : ℕ) (ps' : List PendingWrite) (line' : List Job) → e.number ≡ length (entries_from 1 ranges) + 1 → range ≡ record { offset = e.offset; count = length e.content }
       → top' ≡ max top (e.offset + length e.content) → end ≡ reach_past r (writes_of (put_entry e ps)) → writes_of ps' ≡ beyond r (writes_of (put_entry e ps))
       → jobs_of line' ≡ jobs_of line ++ map put_of (walk r (writes_of (put_entry e ps)))
       → context_of end top' ps' (ranges ++ range ∷ []) line' w ≡ record c { side = accepted_into c.side (write_of e) }
   accepts_entry e range end top' ps' line' number is_range is_top is_end rest jobs =
       let in_place = writes-put_entry e ps in
       let entries : entries_from 1 (ranges ++ range ∷ []) ≡ entries_from 1 ranges ++ entry_at e.number (record { offset = e.offset; count = length e.content }) ∷ [] =
-          entries-snoc 1 ranges range ∙ (let k : 1 + length ranges ≡ e.number = omega (arith, number) in rw (k, is_range) refl) in
+          entries-snoc 1 ranges range ∙ (let k : 1 + length ranges ≡ e.number = omega (arith, number, length-entries 1 ranges) in rw (k, is_range) refl) in
       let e1 : end ≡ reach_past r (put_in (write_of e) (writes_of ps)) = is_end ∙ ap (reach_past r) in_place in
       let p1 : writes_of ps' ≡ beyond r (put_in (write_of e) (writes_of ps)) = rest ∙ ap (beyond r) in_place in
       let j1 : jobs_of line' ≡ jobs_of line ++ map put_of (walk r (put_in (write_of e) (writes_of ps))) = jobs ∙ ap (λ ws. jobs_of line ++ map put_of (walk r ws)) in_place in
@@ -83,6 +83,11 @@ module _ (r top : ℕ) (ps : List PendingWrite) (ranges : List Range) (line : Li
       ∙ ap (λ x. at (reach_past r (put_in (write_of e) (writes_of ps))) (max top (e.offset + length e.content)) (beyond r (put_in (write_of e) (writes_of ps))) x (jobs_of line') (changed_by (ranges ++ range ∷ []))) entries
       ∙ ap (λ x. at (reach_past r (put_in (write_of e) (writes_of ps))) (max top (e.offset + length e.content)) (beyond r (put_in (write_of e) (writes_of ps))) (entries_from 1 ranges ++ entry_at e.number (record { offset = e.offset; count = length e.content }) ∷ []) x (changed_by (ranges ++ range ∷ []))) j1
       ∙ ap (λ x. at (reach_past r (put_in (write_of e) (writes_of ps))) (max top (e.offset + length e.content)) (beyond r (put_in (write_of e) (writes_of ps))) (entries_from 1 ranges ++ entry_at e.number (record { offset = e.offset; count = length e.content }) ∷ []) (jobs_of line ++ map put_of (walk r (put_in (write_of e) (writes_of ps)))) x) (changed-snoc ranges range)
+
+  -- who waits for its turn
+  pub waits_for : (ticket : TicketId) (early : Bool) (kept : Option TicketId) → kept ≡ (if early then None else Some ticket) → option_map (λ (t : TicketId). t.number) kept ≡ (if early then None else Some ticket.number)
+  waits_for ticket true kept is = ap (option_map (λ (t : TicketId). t.number)) is
+  waits_for ticket false kept is = ap (option_map (λ (t : TicketId). t.number)) is
 
   -- the write that a request becomes
   pub becomes : (e : PendingWrite) (ticket : ℕ) (call : WriteCall) → e.number ≡ length ranges + 1 → e.offset ≡ max r call.offset → e.content ≡ drop (r - call.offset) call.content → e.asked ≡ length call.content
@@ -152,3 +157,30 @@ module _ (r top : ℕ) (ps : List PendingWrite) (ranges : List Range) (line : Li
       let told = meets_again r top (writes_of ps) (entries_from 1 ranges) (jobs_of line) (changed_by ranges) ticket call f.0 above f.1
           ∙ ap (λ h. side_again h unlimited c.side (request ticket call) f.0.number) f.2 ∙ said_again ticket call f.0 how apart in
       (ap (λ (t : Told). let x : Context = record c { side = t.side } in x) (sym told), ap (λ (t : Told). t.answers) told)
+
+both : (p q : ℕ × ℕ) → Some p ≡ Some q → (p.0 ≡ q.0) × (p.1 ≡ q.1)
+both p q e = let same : p ≡ q = cc in (ap (λ (x : ℕ × ℕ). x.0) same, ap (λ (x : ℕ × ℕ). x.1) same)
+
+-- where the kept part begins, and how long it is
+pub part_is : (n offset count start len : ℕ) → ◌≡◌ {A = Option (ℕ × ℕ)} (Some (start, len)) (part_from n offset count) → (start ≡ max n offset) × (len ≡ (offset + count) - max n offset)
+part_is n offset count start len is = go (nat_le (offset + count) n) is
+  where
+    go : (b : Bool) → ◌≡◌ {A = Option (ℕ × ℕ)} (Some (start, len)) (if b then None else Some (max n offset, (offset + count) - max n offset)) → (start ≡ max n offset) × (len ≡ (offset + count) - max n offset)
+    go true e = cc
+    go false e = both (start, len) (max n offset, (offset + count) - max n offset) e
+
+-- the answer at once, where there is one
+pub early_is : (r ticket : ℕ) (call : WriteCall) (asked : ℕ) → nat_lt r call.offset ≡ true → asked ≡ length call.content → early_answers (nat_lt r call.offset) (request ticket call) ≡ record { ticket = ticket; body = Wrote asked Unstable } ∷ []
+early_is r ticket call asked early is = rw early (ap (λ n. let a : Answer = record { ticket = ticket; body = Wrote n Unstable } in a ∷ []) (sym is))
+
+pub late_is : (r ticket : ℕ) (call : WriteCall) → nat_lt r call.offset ≡ false → early_answers (nat_lt r call.offset) (request ticket call) ≡ []
+late_is r ticket call late = rw late refl
+
+-- whose ticket is answered at once
+pub owed_is : (ticket t : TicketId) (early : Bool) → Some t ≡ (if early then Some ticket else None) → (early ≡ true) × (t ≡ ticket)
+owed_is ticket t true is = (refl, cc)
+owed_is ticket t false is = cc
+
+pub none_owed : (ticket : TicketId) (early : Bool) → None ≡ (if early then Some ticket else None) → early ≡ false
+none_owed ticket true is = cc
+none_owed ticket false is = refl

@@ -1,11 +1,11 @@
 -- What a WRITE and a turn come to, case by case.
-use Rattle.std.proofs.Common.{◌≡◌, ◌≢◌, ℕ, ◌+◌, ◌<◌, ◌≤◌, ◌↔◌, nat_le, nat_lt, Bool, true, false, Option, None, Some, List, [], ◌∷◌, ◌++◌, length, refl, sym, ◌∙◌, ap, subst, append-nil, ◌⊎◌, inl, inr, IfSome, Result, Ok, Err, IfOk, OnErr, arith}
+use Rattle.std.proofs.Common.{◌≡◌, ◌≢◌, ℕ, ◌+◌, ◌<◌, ◌≤◌, ◌↔◌, nat_le, nat_lt, Bool, true, false, not, Option, None, Some, List, [], ◌∷◌, ◌++◌, length, refl, sym, ◌∙◌, ap, subst, append-nil, ◌⊎◌, inl, inr, IfSome, Result, Ok, Err, IfOk, OnErr, arith}
 use Rattle.gw_outside.specs.Causes.{Rose}
 use Rattle.std.specs.Prelude.{◌^◌, ◌==◌, is_none, if◌then◌else◌}
 use Rattle.std.proofs.lemmas.Bool.{cases_lt}
 use Rattle.std.proofs.lemmas.Bool.Decides.{nat_tests}
 use Rattle.gw_model.specs.Order.{end_within}
-use Rattle.gw_model.specs.Ahead.{Ahead, Called, Good, Bad}
+use Rattle.gw_model.specs.Ahead.{Ahead, Called, Good, Bad, next_call}
 use Rattle.gw_model.specs.File as model
 use Rattle.gw_model.specs.File.{Answer, NotWritten, Wrote, Job}
 use Rattle.gw_model.specs.Admission.{io, fbig}
@@ -206,7 +206,7 @@ job_done tells old new j js answers content content' faults faults' line w is = 
   put = w.put;
   next = λ told desk later.
       ap (λ l. turn_line l content old desk (ahead_of (w.calls ++ later))) line
-      ∙ ap (λ (s : WriterStep). says (Some (record old { side = with_line js old.side; writer = s.writer })) desk s.answers (put_by old.writer.failed j.task _) s.ahead) (w.next told later)
+      ∙ ap (λ (s : WriterStep). says (Some (record old { side = with_line js old.side; writer = s.writer })) desk s.answers (put_by old.writer.failed j.task (next_call (ahead_of (w.calls ++ later))).called) s.ahead) (w.next told later)
       ∙ ap (λ put. says (Some (record old { side = with_line js old.side; writer = new.writer })) desk answers put (ahead_of later)) (w.puts later)
       ∙ ap (λ c. says (Some c) desk answers w.put (ahead_of later)) (sym is);
   puts = w.leaves;
@@ -308,3 +308,11 @@ pub takes_in : (n : ℕ) (call : WriteCall) (c d : Context) (desk : DeskState) (
 takes_in n call c d desk new text answers p is said = λ t.
     ap (λ answers. says (Some (record c { side = (side_write unlimited c.side (request n call)).side })) desk answers [] t) p.1
     ∙ ap (λ x. says (Some x) desk answers [] t) (sym p.0) ∙ sym (rw (is, said) refl)
+
+pub not_true : (b : Bool) → not b ≡ true → b ≡ false
+not_true false e = refl
+not_true true e = cc
+
+pub not_false : (b : Bool) → not b ≡ false → b ≡ true
+not_false true e = refl
+not_false false e = cc

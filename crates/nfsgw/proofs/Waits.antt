@@ -1,5 +1,5 @@
 -- The writes that wait above the file's present end, and the jobs of its line.
-use Rattle.std.proofs.Common.{◌≡◌, ℕ, zero, suc, ◌+◌, ◌-◌, ◌<◌, ◌≤◌, ◌&&◌, true, false, nat_le, leb, Some, None, List, [], ◌∷◌, ◌++◌, length, take, drop, map, max, min, slice_get, get_or, refl, sym, ◌∙◌, ap, subst, cond, arith}
+use Rattle.std.proofs.Common.{◌≡◌, ℕ, zero, suc, ◌+◌, ◌-◌, ◌<◌, ◌≤◌, ◌&&◌, true, false, nat_le, leb, Option, Some, None, is_some, List, [], ◌∷◌, ◌++◌, length, take, drop, map, max, min, slice_get, get_or, refl, sym, ◌∙◌, ap, subst, cond, arith}
 use Rattle.std.specs.Prelude.{◌^◌, ◌==◌, if◌then◌else◌}
 use Rattle.std.specs.Option.{option_map}
 use Rattle.std.proofs.lemmas.Bool.Decides.{nat_tests}
@@ -72,3 +72,12 @@ repeat_here q (x ∷ xs) zero e lt is at len =
     let len' : (length x.content == length q.bytes) ≡ true = subst (λ (y : PendingWrite). (length y.content == length q.bytes) ≡ true) is len in
     rw (at', len') (ap (λ (y : PendingWrite). Some (repeat_of q (write_of y))) (sym is))
 repeat_here q (x ∷ xs) (suc k) e lt is at len = repeat_here q xs k e (omega (arith, lt)) is at len
+
+-- nothing is left where taking the first away changes nothing
+pub none_left : (js : List Job) → js ≡ drop 1 js → js ≡ []
+none_left [] e = refl
+none_left (j ∷ js) e = let same : length (j ∷ js) ≡ length js = ap length e in absurd (omega (arith, same))
+
+pub none_of : {X : Type 0} (o : Option X) → is_some o ≡ false → o ≡ None
+none_of None e = refl
+none_of (Some x) e = cc

@@ -210,9 +210,9 @@ module _ (tells : Type 0) (base stored : ℕ) (failure : Option Failure) (w : Wr
 
 -- no more is taken than there is
 take_min : (n : ℕ) (xs : List ℕ) → take (min n (length xs)) xs ≡ take n xs
-take_min zero xs = refl
-take_min (suc n) [] = refl
-take_min (suc n) (x ∷ xs) = ap (λ ys. x ∷ ys) (take_min n xs)
+take_min zero xs = let none : min 0 (length xs) ≡ 0 = omega arith in ap (λ k. take k xs) none
+take_min (suc n) [] = let none : min (suc n) 0 ≡ 0 = omega arith in ap (λ k. take {A = ℕ} k []) none
+take_min (suc n) (x ∷ xs) = let less : min (suc n) (length (x ∷ xs)) ≡ suc (min n (length xs)) = omega arith in ap (λ k. take k (x ∷ xs)) less ∙ ap (λ ys. x ∷ ys) (take_min n xs)
 
 -- what a read gave of a range, and the range
 pub read_is : (bytes content old out : List ℕ) (offset count : ℕ) → count ≡ min (length old) (length content - offset) → length old ≡ length bytes → out ≡ part_at content offset count ++ drop count old

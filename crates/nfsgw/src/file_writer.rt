@@ -164,7 +164,7 @@ impl FileWriter {
     {
         let there = &mut self.buffer[..bytes.len()];
         match file.read_at(offset, there) {
-            Ok(count) if &there[..count] == bytes => Compared::Same,
+            Ok(count) if bytes == &there[..count] => Compared::Same,
             Ok(_) => Compared::Differs,
             Err(_) => Compared::ReadFault,
         }

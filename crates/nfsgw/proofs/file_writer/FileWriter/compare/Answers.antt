@@ -26,6 +26,6 @@ returns-in-Differs-clause-works g c =
 pub returns-in-ReadFault-clause-works : goal.returns-in-ReadFault-clause-works
 returns-in-ReadFault-clause-works g c =
     let works : is_some c.self.inside.failure ≡ false = search rules in
-    let is = rw c.as_slice.ensures at c.in-ReadFault.ensures.compared in
+    let is = c.in-ReadFault.ensures.compared in
     rw (c.refused-in-ReadFault.ensures, c.in-ReadFault.ensures.same) (compared_at g.F.AppendFile.tells c.self.inside.base c.self.inside.stored c.self.inside.failure c.args.self.now c.self.view_is c.args.offset c.args.content.now c.args.ticket.number compared.ReadFault
     (g.F.AppendFile.content c.args.file.now) (g.F.AppendFile.content c.compare_with.new.file) (g.F.AppendFile.count c.args.file.now) (g.F.AppendFile.count c.compare_with.new.file) works is)
