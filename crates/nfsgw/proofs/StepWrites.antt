@@ -7,7 +7,7 @@ use Rattle.std.proofs.lemmas.Bool.Decides.{nat_tests}
 use Rattle.gw_model.specs.Order.{end_within}
 use Rattle.gw_model.specs.Ahead.{Ahead, Called, Good, Bad, next_call}
 use Rattle.gw_model.specs.File as model
-use Rattle.gw_model.specs.File.{Answer, NotWritten, Wrote, Job}
+use Rattle.gw_model.specs.File.{Answer, NotWritten, Wrote, Job, Side, Writer}
 use Rattle.gw_model.specs.Admission.{io, fbig}
 use Rattle.gw_model.specs.Writer.{WriterStep, do_job}
 use Rattle.tickets.specs.Desk.{TicketId, DeskState, issued, answered, owed}
@@ -316,3 +316,7 @@ not_true true e = cc
 pub not_false : (b : Bool) → not b ≡ false → b ≡ true
 not_false true e = refl
 not_false false e = cc
+
+-- a writer keeps how many bytes there were at opening
+pub based : (base : ℕ) (w : Writer) (side : Side) → w.synced ≡ base → (let c : Context = record { base = w.synced; side = side; writer = w } in c) ≡ record { base = base; side = side; writer = w }
+based base w side is = ap (λ n. let c : Context = record { base = n; side = side; writer = w } in c) is

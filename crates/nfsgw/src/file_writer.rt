@@ -95,6 +95,7 @@ impl FileWriter {
         requires some { 0 < length bytes.now }
         ensures put { IsPut F.tells start bytes.now result self.old self.new (F.content file.old) (F.content file.new) (F.count file.old) (F.count file.new) }
         ensures behind { IsBelow self.new (start + length bytes.now) }
+        ensures base { self.new.synced ≡ self.old.synced }
         ensures same { F.mark file.new ≡ F.mark file.old }
     {
         match file.append(bytes) {
@@ -119,6 +120,7 @@ impl FileWriter {
         requires fits { start + length bytes.now < 2 ^ 64 }
         ensures put { IsPut F.tells start bytes.now result self.old self.new (F.content file.old) (F.content file.new) (F.count file.old) (F.count file.new) }
         ensures behind { IsBelow self.new (start + length bytes.now) }
+        ensures base { self.new.synced ≡ self.old.synced }
         ensures same { F.mark file.new ≡ F.mark file.old }
     {
         if self.failure.is_some() {
@@ -144,6 +146,7 @@ impl FileWriter {
         ensures works { (number : ℕ) → Works F.tells (job_of (PutJob number start content.now asked ticket)) self.old self.new (answers_of result) (F.content file.old) (F.content file.new) (F.count file.old) (F.count file.new) }
         ensures replies { AreWrite result }
         ensures behind { IsBelow self.new (start + length content.now) }
+        ensures base { self.new.synced ≡ self.old.synced }
         ensures same { F.mark file.new ≡ F.mark file.old }
     {
         let done = self.put_bytes(file, start, content.as_slice());
