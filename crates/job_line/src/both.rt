@@ -41,7 +41,8 @@ pub fn beside(input: &mut LineIn, output: &mut LineOut) -> usize
     ensures most { result ≤ line_slots input.new }
     ensures free { line_slots input.new ≤ result + free_slots input.new }
 {
-    input.producer.slots_beside(&mut output.consumer);
+    // What the last look says still holds behind it.
+    let _ = input.producer.slots_beside(&mut output.consumer);
     output.consumer.slots_beside(&mut input.producer)
 }
 
