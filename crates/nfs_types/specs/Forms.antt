@@ -1,6 +1,5 @@
 -- How values are read that are made of items, from the front of a list of bytes.
 use Rattle.std.specs.Prelude.{ℕ, ◌==◌, if◌then◌else◌, Bool, true, false, List, [], ◌∷◌, Option, Some, None, Result, Ok, Err}
-use Rattle.xdr.specs.declared.fault.XdrFault.{XdrFault}
 use Rattle.xdr.specs.declared.fault.XdrFault.TheVariants.{BadChoice}
 use Rattle.xdr.specs.Reading.{Cursor, Reading, u32_at, bool_at}
 

@@ -1,5 +1,5 @@
 -- The types of RFC 1813 section 2: the row of each, and how it is read.
-use Rattle.std.specs.Prelude.{ℕ, ◌+◌, ◌*◌, ◌^◌, ◌-◌, ◌/◌, ◌%◌, min, List, [], ◌∷◌, ◌++◌, Option}
+use Rattle.std.specs.Prelude.{ℕ, ◌*◌, ◌^◌, ◌-◌, ◌/◌, ◌%◌, min, List, [], ◌∷◌, ◌++◌, Option}
 use Rattle.xdr.specs.Reading.{Cursor, Reading, u32_at, u64_at}
 use Rattle.nfs_types.specs.declared.time.Time.{Time}
 use Rattle.nfs_types.specs.declared.time.SetTime.{SetTime}
@@ -16,7 +16,7 @@ use Rattle.nfs_types.specs.Forms.{◌&◌, made, given, option_at, union_at}
 abbrev pub time_row : Time → List Item
 time_row t = Word t.seconds ∷ Word t.nanos ∷ []
 
-abbrev time_of : ℕ × ℕ → Time
+abbrev pub time_of : ℕ × ℕ → Time
 time_of t = record { seconds = t.0; nanos = t.1 }
 
 unfoldable pub time_at : Cursor → Reading Time
@@ -35,7 +35,7 @@ set_time_at = union_at ((0, given Leave) ∷ (1, given Server) ∷ (2, made At t
 abbrev pub set_row : SetAttr → List Item
 set_row s = option_row word_row s.mode ++ (option_row word_row s.uid ++ (option_row word_row s.gid ++ (option_row long_row s.size ++ (set_time_row s.atime ++ set_time_row s.mtime))))
 
-abbrev set_of : Option ℕ × (Option ℕ × (Option ℕ × (Option ℕ × (SetTime × SetTime)))) → SetAttr
+abbrev pub set_of : Option ℕ × (Option ℕ × (Option ℕ × (Option ℕ × (SetTime × SetTime)))) → SetAttr
 set_of s = record { mode = s.0; uid = s.1.0; gid = s.1.1.0; size = s.1.1.1.0; atime = s.1.1.1.1.0; mtime = s.1.1.1.1.1 }
 
 unfoldable pub set_at : Cursor → Reading SetAttr
@@ -61,7 +61,7 @@ type_at = union_at ((1, given Regular) ∷ (2, given Directory) ∷ (3, given Bl
 abbrev pub device_row : Device → List Item
 device_row d = Word d.major ∷ Word d.minor ∷ []
 
-abbrev device_of : ℕ × ℕ → Device
+abbrev pub device_of : ℕ × ℕ → Device
 device_of d = record { major = d.0; minor = d.1 }
 
 unfoldable pub device_at : Cursor → Reading Device
@@ -79,7 +79,7 @@ attr_row a =
     ∷ Long a.used
     ∷ (device_row a.rdev ++ (Long a.fsid ∷ Long a.fileid ∷ (time_row a.atime ++ (time_row a.mtime ++ time_row a.ctime))))
 
-abbrev attr_of : FileType × (ℕ × (ℕ × (ℕ × (ℕ × (ℕ × (ℕ × (Device × (ℕ × (ℕ × (Time × (Time × Time))))))))))) → Attr
+abbrev pub attr_of : FileType × (ℕ × (ℕ × (ℕ × (ℕ × (ℕ × (ℕ × (Device × (ℕ × (ℕ × (Time × (Time × Time))))))))))) → Attr
 attr_of a =
     record {
       kind = a.0;

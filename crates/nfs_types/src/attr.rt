@@ -1,7 +1,6 @@
 // The attributes of an object.
 ghost use Rattle.std.specs.Prelude.{◌≡◌, IfOk, IfErr, Ok, Err};
-ghost use Rattle.nfs_types.specs.Rows.{text};
-ghost use Rattle.nfs_types.specs.Types.{attr_row, attr_at, device_at};
+ghost use Rattle.nfs_types.specs.Types.{attr_at, device_at};
 
 use crate::file_type::read_type;
 use crate::time::read_time;
@@ -35,7 +34,8 @@ pub struct Device {
     pub minor: u32,
 }
 
-/// Reads attributes. A fault is the first one in the order of the bytes, at its item's place.
+/// Reads attributes, 84 bytes. A fault is the first one in the order of the bytes, at its item's place: `BadChoice` for a
+/// word that names no type.
 #[tactic(auto, unfolding(crate::specs::Types::attr_at))]
 pub fn read_attr(reader: &mut Reader<'_>) -> Result<Attr, XdrFault>
     ensures ok { IfOk result (λ a. attr_at reader.old ≡ Ok (a, reader.new)) }
@@ -71,7 +71,7 @@ pub fn read_attr(reader: &mut Reader<'_>) -> Result<Attr, XdrFault>
     })
 }
 
-/// Two words.
+/// Reads the numbers of a device: two words.
 #[tactic(auto, unfolding(crate::specs::Types::device_at))]
 pub fn read_device(reader: &mut Reader<'_>) -> Result<Device, XdrFault>
     ensures ok { IfOk result (λ d. device_at reader.old ≡ Ok (d, reader.new)) }

@@ -33,8 +33,7 @@ impl FileType {
     }
 }
 
-/// A word that names a type; another one is `BadChoice`. After a fault the reader stands where it
-/// stood.
+/// Reads the word that names a type; another one is `BadChoice`, at its place.
 #[tactic(auto, unfolding(crate::specs::Types::type_at, xdr::specs::Reading::u32_at))]
 pub fn read_type(reader: &mut Reader<'_>) -> Result<FileType, XdrFault>
     ensures ok { IfOk result (λ t. type_at reader.old ≡ Ok (t, reader.new)) }

@@ -3,11 +3,18 @@
 
 mod attr;
 mod file_type;
+mod laws;
 mod set;
 pub mod status;
+mod text;
 mod time;
 
-pub use attr::{Attr, Device, read_attr};
-pub use file_type::FileType;
+pub use attr::{Attr, Device, read_attr, read_device};
+pub use file_type::{FileType, read_type};
+pub use laws::{attr_law, row_law, set_law, time_law};
 pub use set::{SetAttr, read_set};
-pub use time::{SetTime, Time};
+pub use text::attr_text;
+pub use time::{SetTime, Time, read_time};
+
+#[cfg(test)]
+mod tests;

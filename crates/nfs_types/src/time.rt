@@ -35,7 +35,7 @@ impl Time {
     }
 }
 
-/// Two words.
+/// Reads a time: two words.
 #[tactic(auto, unfolding(crate::specs::Types::time_at))]
 pub fn read_time(reader: &mut Reader<'_>) -> Result<Time, XdrFault>
     ensures ok { IfOk result (λ t. time_at reader.old ≡ Ok (t, reader.new)) }
@@ -46,7 +46,7 @@ pub fn read_time(reader: &mut Reader<'_>) -> Result<Time, XdrFault>
     Ok(Time { seconds, nanos })
 }
 
-/// A word, and behind 2 a time; a word past 2 is `BadChoice`.
+/// Reads what is said of a time: a word, and behind 2 a time; a word past 2 is `BadChoice`.
 #[tactic(auto, unfolding(crate::specs::Types::set_time_at))]
 pub fn read_set_time(reader: &mut Reader<'_>) -> Result<SetTime, XdrFault>
     ensures ok { IfOk result (λ t. set_time_at reader.old ≡ Ok (t, reader.new)) }
