@@ -1,0 +1,4 @@
+pub mod Texts
+pub mod Taken
+pub mod Exact
+pub mod Types

@@ -1,0 +1,31 @@
+-- What is written for a row spells it.
+use Rattle.std.proofs.Common.{◌≡◌, ℕ, List, [], ◌∷◌, ◌++◌, refl, sym, ap, ◌∙◌, append_assoc, append-nil}
+use Rattle.xdr.proofs.Numbers.{word_spells, long_spells}
+use Rattle.xdr.proofs.Opaques.{fixed_spells, opaque_spells}
+use Rattle.nfs_types.specs.Rows.{Item, Word, Long, Fixed, Opaque, SpellsItem, Spells, item_text, written, text, Fits, AllFit}
+
+pub written-text : (done : List ℕ) (row : List Item) → written done row ≡ done ++ text row
+written-text done [] = sym (append-nil done)
+written-text done (item ∷ row) =
+    written-text (done ++ item_text item) row ∙ append_assoc done (item_text item) (text row) ∙ ap (λ (k : List ℕ). done ++ k) (sym (written-text (item_text item) row))
+
+pub text-cons : (item : Item) (row : List Item) → text (item ∷ row) ≡ item_text item ++ text row
+text-cons item row = written-text (item_text item) row
+
+-- one row behind another
+pub written-append : (done : List ℕ) (xs ys : List Item) → written done (xs ++ ys) ≡ written (written done xs) ys
+written-append done [] ys = refl
+written-append done (item ∷ xs) ys = written-append (done ++ item_text item) xs ys
+
+pub text-append : (xs ys : List Item) → text (xs ++ ys) ≡ text xs ++ text ys
+text-append xs ys = written-append [] xs ys ∙ written-text (text xs) ys
+
+spells_item : (item : Item) → Fits item → SpellsItem (item_text item) item
+spells_item (Word n) fits = word_spells n fits
+spells_item (Long n) fits = long_spells n fits
+spells_item (Fixed len v) fits = (fits, fixed_spells v)
+spells_item (Opaque most v) fits = (fits.0, opaque_spells v fits.1)
+
+pub spells_text : (row : List Item) → AllFit row → Spells (text row) row
+spells_text [] fits = refl
+spells_text (item ∷ row) fits = (item_text item, text row, text-cons item row, spells_item item fits.0, spells_text row fits.1)

@@ -1,0 +1,5 @@
+pub mod Rows
+pub mod Forms
+pub mod Exact
+pub mod Types
+pub mod Status
