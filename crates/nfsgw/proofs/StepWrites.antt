@@ -1,5 +1,5 @@
 -- What a WRITE and a turn come to, case by case.
-use Rattle.std.proofs.Common.{◌≡◌, ◌≢◌, ℕ, ◌+◌, ◌<◌, ◌≤◌, ◌↔◌, nat_le, nat_lt, Bool, true, false, not, Option, None, Some, List, [], ◌∷◌, ◌++◌, length, refl, sym, ◌∙◌, ap, subst, append-nil, ◌⊎◌, inl, inr, IfSome, Result, Ok, Err, IfOk, OnErr, arith}
+use Rattle.std.proofs.Common.{◌≡◌, ◌≢◌, ℕ, ◌+◌, ◌<◌, ◌≤◌, ◌↔◌, nat_le, nat_lt, Bool, true, false, Option, None, Some, List, [], ◌∷◌, ◌++◌, length, refl, sym, ◌∙◌, ap, subst, append-nil, ◌⊎◌, inl, inr, IfSome, Result, Ok, Err, IfOk, OnErr, arith}
 use Rattle.gw_outside.specs.Causes.{Rose}
 use Rattle.std.specs.Prelude.{◌^◌, ◌==◌, is_none, if◌then◌else◌}
 use Rattle.std.proofs.lemmas.Bool.{cases_lt}
@@ -308,14 +308,6 @@ pub takes_in : (n : ℕ) (call : WriteCall) (c d : Context) (desk : DeskState) (
 takes_in n call c d desk new text answers p is said = λ t.
     ap (λ answers. says (Some (record c { side = (side_write unlimited c.side (request n call)).side })) desk answers [] t) p.1
     ∙ ap (λ x. says (Some x) desk answers [] t) (sym p.0) ∙ sym (rw (is, said) refl)
-
-pub not_true : (b : Bool) → not b ≡ true → b ≡ false
-not_true false e = refl
-not_true true e = cc
-
-pub not_false : (b : Bool) → not b ≡ false → b ≡ true
-not_false true e = refl
-not_false false e = cc
 
 -- a writer keeps how many bytes there were at opening
 pub based : (base : ℕ) (w : Writer) (side : Side) → w.synced ≡ base → (let c : Context = record { base = w.synced; side = side; writer = w } in c) ≡ record { base = base; side = side; writer = w }

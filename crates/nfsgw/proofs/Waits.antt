@@ -1,5 +1,5 @@
 -- The writes that wait above the file's present end, and the jobs of its line.
-use Rattle.std.proofs.Common.{◌≡◌, ℕ, zero, suc, ◌+◌, ◌-◌, ◌<◌, ◌≤◌, ◌&&◌, Bool, true, false, IsTrue, nat_le, leb, Option, Some, None, is_some, List, [], ◌∷◌, ◌++◌, length, take, drop, map, max, min, slice_get, get_or, refl, sym, ◌∙◌, ap, subst, cond, arith}
+use Rattle.std.proofs.Common.{◌≡◌, ℕ, zero, suc, ◌+◌, ◌-◌, ◌<◌, ◌≤◌, ◌&&◌, true, false, IsTrue, nat_le, leb, Option, Some, None, is_some, List, [], ◌∷◌, ◌++◌, length, take, drop, map, max, min, slice_get, get_or, refl, sym, ◌∙◌, ap, subst, cond, arith}
 use Rattle.std.specs.Prelude.{◌^◌, ◌==◌, if◌then◌else◌}
 use Rattle.std.specs.Option.{option_map}
 use Rattle.std.proofs.lemmas.Bool.Decides.{nat_tests}
@@ -17,12 +17,8 @@ head_reached n es rest e is = rw is (grind (arith, nat_tests))
 
 pub reached_first : (n : ℕ) (es rest : List PendingWrite) (e : PendingWrite) → es ≡ e ∷ rest → IsTrue (first_reached n (writes_of es)) → e.offset ≤ n
 reached_first n es rest e is reached =
-    let test : nat_le e.offset n ≡ true = true_of (nat_le e.offset n) (rw is at reached) in
+    let test : nat_le e.offset n ≡ true = rw is at reached in
     grind (arith, nat_tests)
-  where
-    true_of : (b : Bool) → IsTrue b → b ≡ true
-    true_of true t = refl
-    true_of false t = absurd t
 
 pub none_reached : (n : ℕ) → false ≡ first_reached n (writes_of [])
 none_reached n = refl

@@ -30,7 +30,7 @@ returns-in-Some-owed c =
     let ok = rw (← c.self.view_is) at c.in-Ok.ensures.ok in
     let early = owed_is c.args.ticket c.in-Some-owed.ticket (nat_lt r call.offset) (sym c.in-Some-owed.is ∙ c.split_ticket-kept.ensures.owed) in
     let answers = early_is r c.args.ticket.number call c.len-asked.result early.0 asked ∙ ap (λ (t : TicketId). let a : Answer = record { ticket = t.number; body = Wrote c.len-asked.result Unstable } in a ∷ []) (sym early.1) in
-    rw (c.wrote.ensures, ← c.self.view_is) (refl, ok ∙ told.0, told.1 ∙ answers)
+    rw (c.wrote.ensures, ← c.self.view_is) (refl, (ok ∙ told.0, told.1 ∙ answers))
 
 pub returns-in-None : goal.returns-in-None
 returns-in-None c =
