@@ -1,5 +1,5 @@
 -- A write that enters the context of an open file.
-use Rattle.std.proofs.Common.{◌≡◌, ℕ, ◌+◌, ◌-◌, ◌<◌, ◌≤◌, ◌&&◌, max, Bool, true, false, nat_lt, nat_le, Option, None, Some, List, [], ◌∷◌, ◌++◌, length, map, drop, refl, sym, ◌∙◌, ap, subst, arith}
+use Rattle.std.proofs.Common.{◌≡◌, ℕ, ◌+◌, ◌-◌, ◌<◌, ◌≤◌, ◌&&◌, max, Bool, true, false, nat_lt, nat_le, Option, None, Some, List, [], ◌∷◌, ◌++◌, length, map, drop, refl, sym, ◌∙◌, ap, arith}
 use Rattle.std.specs.Prelude.{◌^◌, if◌then◌else◌}
 use Rattle.std.specs.Option.{option_map}
 use Rattle.std.proofs.lemmas.List.{map-append, length-map}
@@ -13,7 +13,7 @@ use Rattle.gw_model.specs.Sides.{Told, side_write, side_write_by, side_again}
 use Rattle.tickets.specs.Desk.{TicketId}
 use Rattle.nfsgw.specs.World.{unlimited, request}
 use Rattle.nfsgw.specs.Steps.{Context}
-use Rattle.nfsgw.specs.Held.{write_of, writes_of, put_entry, AllEnd, job_of, jobs_of, entry_at, entries_from, changed_by, side_with, repeat_in, repeat_is}
+use Rattle.nfsgw.specs.Held.{write_of, writes_of, put_entry, AllEnd, job_of, jobs_of, entry_at, entries_from, changed_by, side_with, repeat_in}
 use Rattle.nfsgw.specs.Accepting.{accepted_into}
 use Rattle.nfsgw.specs.Answers.{Placed}
 use Rattle.nfsgw.specs.declared.held.PendingWrite.{PendingWrite}
@@ -60,9 +60,11 @@ module _ (r top : ℕ) (ps : List PendingWrite) (ranges : List Range) (line : Li
   holds_compare ticket call le few room =
       let room' : length (jobs_of line) < 2 ^ 65 = omega (arith, room, length-map line job_of) in
       let is = meets_below r top (writes_of ps) (entries_from 1 ranges) (jobs_of line) (changed_by ranges) ticket.number call le (omega (arith, few))
-          ∙ compares r top (writes_of ps) (entries_from 1 ranges) (jobs_of line) (changed_by ranges) ticket.number call room' in
-      (ap (λ js. let x : Context = record c { side = side_with r top (writes_of ps) (entries_from 1 ranges) js (changed_by ranges) } in x) (map-append job_of line (Compare call.offset call.content ticket ∷ []))
-      ∙ ap (λ (t : Told). let x : Context = record c { side = t.side } in x) (sym is), ap (λ (t : Told). t.answers) is)
+      ∙ compares r top (writes_of ps) (entries_from 1 ranges) (jobs_of line) (changed_by ranges) ticket.number call room' in (
+        ap (λ js. let x : Context = record c { side = side_with r top (writes_of ps) (entries_from 1 ranges) js (changed_by ranges) } in x) (map-append job_of line (Compare call.offset call.content ticket ∷ []))
+            ∙ ap (λ (t : Told). let x : Context = record c { side = t.side } in x) (sym is),
+        ap (λ (t : Told). t.answers) is,
+      )
 
   -- accepted among the writes
   pub accepts_entry : (e : PendingWrite) (range : Range) (end top' : ℕ) (ps' : List PendingWrite) (line' : List Job) → e.number ≡ length (entries_from 1 ranges) + 1 → range ≡ record { offset = e.offset; count = length e.content }
@@ -72,7 +74,7 @@ module _ (r top : ℕ) (ps : List PendingWrite) (ranges : List Range) (line : Li
   accepts_entry e range end top' ps' line' number is_range is_top is_end rest jobs =
       let in_place = writes-put_entry e ps in
       let entries : entries_from 1 (ranges ++ range ∷ []) ≡ entries_from 1 ranges ++ entry_at e.number (record { offset = e.offset; count = length e.content }) ∷ [] =
-          entries-snoc 1 ranges range ∙ (let k : 1 + length ranges ≡ e.number = omega (arith, number, length-entries 1 ranges) in rw (k, is_range) refl) in
+      entries-snoc 1 ranges range ∙ (let k : 1 + length ranges ≡ e.number = omega (arith, number, length-entries 1 ranges) in rw (k, is_range) refl) in
       let e1 : end ≡ reach_past r (put_in (write_of e) (writes_of ps)) = is_end ∙ ap (reach_past r) in_place in
       let p1 : writes_of ps' ≡ beyond r (put_in (write_of e) (writes_of ps)) = rest ∙ ap (beyond r) in_place in
       let j1 : jobs_of line' ≡ jobs_of line ++ map put_of (walk r (put_in (write_of e) (writes_of ps))) = jobs ∙ ap (λ ws. jobs_of line ++ map put_of (walk r ws)) in_place in
@@ -113,9 +115,10 @@ module _ (r top : ℕ) (ps : List PendingWrite) (ranges : List Range) (line : Li
       → Placed c (side_write unlimited c.side (request ticket call)) (record c { side = accepted_into c.side (write_of e) }) (early_answers (nat_lt r call.offset) (request ticket call))
   takes_entry e ticket call is line_few ps_few taken =
       let room : length (jobs_of line) + length (writes_of ps) + 1 ≤ 2 ^ 65 = omega (arith, line_few, ps_few, length-map line job_of, length-map ps write_of) in
-      let told = taken ∙ takes r top (writes_of ps) (entries_from 1 ranges) (jobs_of line) (changed_by ranges) ticket call (all_here ps) room in
-      (ap (λ x. let y : Context = record c { side = accepted_into c.side x } in y) is ∙ ap (λ (t : Told). let x : Context = record c { side = t.side } in x) (sym told),
-      ap (λ (t : Told). t.answers) told ∙ go (nat_lt r call.offset))
+      let told = taken ∙ takes r top (writes_of ps) (entries_from 1 ranges) (jobs_of line) (changed_by ranges) ticket call (all_here ps) room in (
+        ap (λ x. let y : Context = record c { side = accepted_into c.side x } in y) is ∙ ap (λ (t : Told). let x : Context = record c { side = t.side } in x) (sym told),
+        ap (λ (t : Told). t.answers) told ∙ go (nat_lt r call.offset),
+      )
     where
       go : (b : Bool) → early_answers (b && true) (request ticket call) ≡ early_answers b (request ticket call)
       go true = refl
@@ -155,7 +158,7 @@ module _ (r top : ℕ) (ps : List PendingWrite) (ranges : List Range) (line : Li
   is_again ticket call how is apart above =
       let f = found (request ticket call) (same_range call.offset (length call.content) (writes_of ps)) how is in
       let told = meets_again r top (writes_of ps) (entries_from 1 ranges) (jobs_of line) (changed_by ranges) ticket call f.0 above f.1
-          ∙ ap (λ h. side_again h unlimited c.side (request ticket call) f.0.number) f.2 ∙ said_again ticket call f.0 how apart in
+      ∙ ap (λ h. side_again h unlimited c.side (request ticket call) f.0.number) f.2 ∙ said_again ticket call f.0 how apart in
       (ap (λ (t : Told). let x : Context = record c { side = t.side } in x) (sym told), ap (λ (t : Told). t.answers) told)
 
 both : (p q : ℕ × ℕ) → Some p ≡ Some q → (p.0 ≡ q.0) × (p.1 ≡ q.1)

@@ -1,5 +1,5 @@
 -- The steps of the program, case by case.
-use Rattle.std.proofs.Common.{◌≡◌, ℕ, ◌+◌, ◌≤◌, Bool, true, false, List, [], ◌∷◌, refl, sym, ◌∙◌, ap, subst, append-nil, ◌⊎◌, inl, inr, Result, Ok, Err, IfOk, OnErr, String, Global, string_bytes, arith}
+use Rattle.std.proofs.Common.{◌≡◌, ℕ, ◌+◌, ◌≤◌, Bool, true, false, List, [], ◌∷◌, refl, sym, ◌∙◌, ap, subst, append-nil, inl, inr, Result, Ok, Err, IfOk, OnErr, String, Global, string_bytes, arith}
 use Rattle.std.specs.declared.alloc.AllocError.{AllocError}
 use Rattle.gw_outside.specs.Causes.{Rose}
 use Rattle.gw_model.specs.Ahead.{Good, Bad}

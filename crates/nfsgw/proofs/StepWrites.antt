@@ -1,5 +1,5 @@
 -- What a WRITE and a turn come to, case by case.
-use Rattle.std.proofs.Common.{◌≡◌, ◌≢◌, ℕ, ◌+◌, ◌<◌, ◌≤◌, ◌↔◌, nat_le, nat_lt, Bool, true, false, Option, None, Some, List, [], ◌∷◌, ◌++◌, length, refl, sym, ◌∙◌, ap, subst, append-nil, ◌⊎◌, inl, inr, IfSome, Result, Ok, Err, IfOk, OnErr, arith}
+use Rattle.std.proofs.Common.{◌≡◌, ℕ, ◌+◌, ◌<◌, ◌≤◌, ◌↔◌, nat_le, nat_lt, Bool, true, false, Option, None, Some, List, [], ◌∷◌, ◌++◌, length, refl, sym, ◌∙◌, ap, subst, append-nil, ◌⊎◌, inl, inr, IfSome, Result, Ok, Err, IfOk, OnErr, arith}
 use Rattle.gw_outside.specs.Causes.{Rose}
 use Rattle.std.specs.Prelude.{◌^◌, ◌==◌, is_none, if◌then◌else◌}
 use Rattle.std.proofs.lemmas.Bool.{cases_lt}
@@ -9,7 +9,7 @@ use Rattle.gw_model.specs.Ahead.{Ahead, Called, Good, Bad, next_call}
 use Rattle.gw_model.specs.File as model
 use Rattle.gw_model.specs.File.{Answer, NotWritten, Wrote, Job, Side, Writer}
 use Rattle.gw_model.specs.Admission.{io, fbig}
-use Rattle.gw_model.specs.Writer.{WriterStep, do_job}
+use Rattle.gw_model.specs.Writer.{WriterStep}
 use Rattle.tickets.specs.Desk.{TicketId, DeskState, issued, answered, owed}
 use Rattle.tickets.specs.declared.answer.Answer.{Answer as AnswerTerm}
 use Rattle.tickets.specs.declared.answer.Body.{Body}
@@ -22,7 +22,7 @@ use Rattle.gw_model.specs.Sides.{side_write}
 use Rattle.nfsgw.specs.World.{Sent, send, told_to, spent, reply_bytes, request, unlimited}
 use Rattle.nfsgw.specs.Steps.{Context, State, Step, fresh, says, placed, write_if, put_by, with_line, turn_line, turn_of, step_of}
 use Rattle.nfsgw.specs.Answers.{answer_of, body_of, level_of, IsWrite, IsDone, Placed, Works}
-use Rattle.nfsgw.specs.Outside.{IsStep, IsCut, Opens, IsOpened, Took, TakesIn}
+use Rattle.nfsgw.specs.Outside.{IsStep, IsCut, IsOpened, Took, TakesIn}
 use Rattle.nfsgw.specs.declared.call.WriteCall.{WriteCall}
 use Rattle.nfsgw.specs.declared.grammar.Event.TheVariants.{Write, Turn}
 

@@ -1,11 +1,10 @@
 -- The writes that wait above the file's present end, and the jobs of its line.
-use Rattle.std.proofs.Common.{◌≡◌, ℕ, zero, suc, ◌+◌, ◌-◌, ◌<◌, ◌≤◌, ◌&&◌, true, false, IsTrue, nat_le, leb, Option, Some, None, is_some, List, [], ◌∷◌, ◌++◌, length, take, drop, map, max, min, slice_get, get_or, refl, sym, ◌∙◌, ap, subst, cond, arith}
-use Rattle.std.specs.Prelude.{◌^◌, ◌==◌, if◌then◌else◌}
-use Rattle.std.specs.Option.{option_map}
+use Rattle.std.proofs.Common.{◌≡◌, ℕ, zero, suc, ◌+◌, ◌<◌, ◌≤◌, true, false, IsTrue, nat_le, leb, Option, Some, None, is_some, List, [], ◌∷◌, ◌++◌, length, drop, get_or, refl, sym, ap, subst, cond, arith}
+use Rattle.std.specs.Prelude.{◌==◌}
 use Rattle.std.proofs.lemmas.Bool.Decides.{nat_tests}
-use Rattle.gw_model.specs.Order.{Accepted, put_in, first_reached}
-use Rattle.gw_model.specs.Admission.{same_range, repeat_of, WriteRequest}
-use Rattle.nfsgw.specs.Held.{write_of, writes_of, put_entry, Ends, AllEnd, Follow, repeat_in, working}
+use Rattle.gw_model.specs.Order.{put_in, first_reached}
+use Rattle.gw_model.specs.Admission.{repeat_of, WriteRequest}
+use Rattle.nfsgw.specs.Held.{write_of, writes_of, put_entry, Ends, AllEnd, Follow, repeat_in}
 use Rattle.nfsgw.specs.declared.held.PendingWrite.{PendingWrite}
 use Rattle.nfsgw.specs.declared.held.Job.{Job}
 use Rattle.nfsgw.specs.declared.held.Job.TheVariants.{Put, Compare}

@@ -184,14 +184,14 @@ module _ (tells : Type 0) (base stored : ℕ) (failure : Option Failure) (w : Wr
       → IsPut tells start bytes true w (writer_with base to failure) content content' faults faults'
   good_at start bytes to content content' faults faults' works to_is some leaves later =
       let is_new : (let x : Writer = record w { stored = max w.stored (start + length bytes) } in x) ≡ writer_with base to failure =
-          sym (ap (λ (x : Writer). let y : Writer = record x { stored = max x.stored (start + length bytes) } in y) is) ∙ ap (λ n. writer_with base n failure) (sym to_is) in
+      sym (ap (λ (x : Writer). let y : Writer = record x { stored = max x.stored (start + length bytes) } in y) is) ∙ ap (λ n. writer_with base n failure) (sym to_is) in
       subst (λ x. IsPut tells start bytes true w x content content' faults faults') is_new (put_good tells start bytes w content content' faults faults' works some leaves later)
 
   pub bad_at : (start : ℕ) (bytes : List ℕ) (kept : ℕ) (content content' : List ℕ) (faults faults' : ℕ) → w.failed ≡ None → 0 < length bytes → kept ≤ length bytes → (tells → content' ≡ content ++ take kept bytes) → Rose faults faults' → faults ≤ faults'
       → IsPut tells start bytes false w (writer_with base (stored + kept) (Some (record { stored = stored + kept; kept = kept }))) content content' faults faults'
   bad_at start bytes kept content content' faults faults' works some few leaves rose later =
       let is_new : (let x : Writer = record w { stored = w.stored + kept; failed = Some (record { stored = w.stored + kept; kept = kept }) } in x) ≡ writer_with base (stored + kept) (Some (record { stored = stored + kept; kept = kept })) =
-          sym (ap (λ (x : Writer). let y : Writer = record x { stored = x.stored + kept; failed = Some (record { stored = x.stored + kept; kept = kept }) } in y) is) in
+      sym (ap (λ (x : Writer). let y : Writer = record x { stored = x.stored + kept; failed = Some (record { stored = x.stored + kept; kept = kept }) } in y) is) in
       subst (λ x. IsPut tells start bytes false w x content content' faults faults') is_new (put_bad tells start bytes w kept content content' faults faults' works some few leaves rose later)
 
   pub failed_at : (start : ℕ) (bytes content : List ℕ) (faults : ℕ) → is_some failure ≡ true → IsPut tells start bytes false w w content content faults faults

@@ -1,5 +1,5 @@
 -- What the context of an open file holds, as the admission side and the writer of the definitions.
-use Rattle.std.specs.Prelude.{◌≡◌, ℕ, ◌+◌, ◌^◌, ◌<◌, ◌≤◌, Bool, true, false, not, List, [], ◌∷◌, map, length, Option, Some, None, nat_le, if◌then◌else◌}
+use Rattle.std.specs.Prelude.{ℕ, ◌+◌, ◌^◌, ◌<◌, ◌≤◌, false, List, [], ◌∷◌, map, length, Option, Some, None, nat_le, if◌then◌else◌}
 use Rattle.std.specs.Option.{option_map}
 use Rattle.gw_model.specs.declared.Stable.TheVariants.{Unstable}
 use Rattle.gw_model.specs.Order.{Accepted}

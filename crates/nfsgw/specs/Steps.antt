@@ -9,7 +9,6 @@ use Rattle.gw_model.specs.Ending.{Fate, Lost, Stored, Open, WriteLine, History, 
 use Rattle.tickets.specs.Desk.{DeskState, new_desk, issued}
 use Rattle.nfsgw.specs.Text.{history_text}
 use Rattle.nfsgw.specs.World.{send, unlimited, request}
-use Rattle.nfsgw.specs.declared.call.WriteCall.{WriteCall}
 use Rattle.nfsgw.specs.declared.grammar.Event.{Event}
 use Rattle.nfsgw.specs.declared.grammar.Event.TheVariants.{MakeFile, Write, Turn}
 

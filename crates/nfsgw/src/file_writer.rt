@@ -4,7 +4,7 @@ ghost use Rattle.nfsgw.specs.Held.{job_of, writer_with, IsBelow};
 ghost use Rattle.nfsgw.specs.Answers.{answer_of, answers_of, AreWrite, IsWrite, Works, IsPut, IsCompared};
 ghost use Rattle.nfsgw.specs.declared.held.Job.TheVariants.{Put as PutJob, Compare as CompareJob};
 
-use crate::answer::{IO, INVAL, refused, wrote};
+use crate::answer::{INVAL, IO, refused, wrote};
 use append_store::AppendFile;
 use bytes::Bytes;
 use std::alloc::{AllocError, Global};

@@ -116,11 +116,7 @@ fn is_reached(pending: &VecDeque<PendingWrite>, reach: u64) -> bool
 }
 
 /// The first pending write, which reach arrives at, becomes a Put of its bytes from reach on. Gives the reach then.
-fn release_first(
-    pending: &mut VecDeque<PendingWrite>,
-    line: &mut VecDeque<Job>,
-    reach: u64,
-) -> u64
+fn release_first(pending: &mut VecDeque<PendingWrite>, line: &mut VecDeque<Job>, reach: u64) -> u64
     requires reached { IsTrue (first_reached reach (writes_of pending.old.items)) }
     requires room { deque_len line.old < deque_capacity line.old }
     requires ends { AllEnd pending.old.items }

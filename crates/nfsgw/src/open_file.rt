@@ -208,18 +208,22 @@ impl OpenFile {
         ensures same { F.mark file.new ≡ F.mark file.old }
     {
         match self.line.pop_front() {
-            Some(Job::Put {
-                number: _,
-                start,
-                content,
-                asked,
-                ticket,
-            }) => self.writer.put(file, start, &content, asked, ticket),
-            Some(Job::Compare {
-                offset,
-                content,
-                ticket,
-            }) => Some(self.writer.compare(file, offset, &content, ticket)),
+            Some(
+                Job::Put {
+                    number: _,
+                    start,
+                    content,
+                    asked,
+                    ticket,
+                },
+            ) => self.writer.put(file, start, &content, asked, ticket),
+            Some(
+                Job::Compare {
+                    offset,
+                    content,
+                    ticket,
+                },
+            ) => Some(self.writer.compare(file, offset, &content, ticket)),
             None => None,
         }
     }

@@ -134,7 +134,12 @@ impl World {
     }
 
     /// A WRITE of the open file.
-    fn take_in(&mut self, alloc: Global, call: WriteCall, ticket: Ticket) -> Result<String, AllocError>
+    fn take_in(
+        &mut self,
+        alloc: Global,
+        call: WriteCall,
+        ticket: Ticket,
+    ) -> Result<String, AllocError>
         requires open { IsTrue (is_some self.old.opened) }
         requires few { length call.content ≤ 1048576 }
         requires below { call.offset + length call.content < 2 ^ 63 }

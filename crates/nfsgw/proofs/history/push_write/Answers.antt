@@ -1,4 +1,3 @@
-use Rattle.std.proofs.Common.{◌≡◌}
 use Rattle.nfsgw.proofs.history.push_write.Goals as goal
 
 pub returns : goal.returns

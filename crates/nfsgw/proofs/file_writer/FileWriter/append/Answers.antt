@@ -1,4 +1,4 @@
-use Rattle.std.proofs.Common.{rules, ◌≡◌, ◌+◌, max, length, sym}
+use Rattle.std.proofs.Common.{rules, ◌≡◌, ◌+◌, max, length}
 use Rattle.std.proofs.Math.Seq.{take-length}
 use Rattle.nfsgw.proofs.Working.{good_at, bad_at}
 use Rattle.nfsgw.proofs.file_writer.FileWriter.append.Goals as goal

@@ -1,4 +1,4 @@
-use Rattle.std.proofs.Common.{rules, ◌≡◌, true, false, is_some, length}
+use Rattle.std.proofs.Common.{rules, ◌≡◌, true, false, is_some}
 use Rattle.nfsgw.specs.declared.file_writer.Compared.TheVariants as compared
 use Rattle.nfsgw.proofs.Working.{compared_at, uncompared_at}
 use Rattle.nfsgw.proofs.file_writer.FileWriter.compare.Goals as goal

@@ -1,4 +1,4 @@
-use Rattle.std.proofs.Common.{rules, ◌≡◌, true, false, is_some, length, sym, ◌∙◌}
+use Rattle.std.proofs.Common.{rules, ◌≡◌, true, false, is_some, length}
 use Rattle.nfsgw.proofs.Working.{failed_at, none_at}
 use Rattle.nfsgw.proofs.file_writer.FileWriter.put_bytes.Goals as goal
 

@@ -1,4 +1,4 @@
-use Rattle.std.proofs.Common.{◌≡◌, ◌++◌, ◌+◌, drop, map, is_some, string_bytes}
+use Rattle.std.proofs.Common.{◌≡◌, ◌++◌, ◌+◌, drop, map, string_bytes}
 use Rattle.std.specs.List.{flat_map}
 use Rattle.nfsgw.specs.Text.{context_text, write_text}
 use Rattle.nfsgw.specs.Steps.{line_by}

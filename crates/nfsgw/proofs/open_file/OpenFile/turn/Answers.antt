@@ -1,4 +1,4 @@
-use Rattle.std.proofs.Common.{rules, ◌≡◌, ◌+◌, ◌<◌, ◌∷◌, length, ap, ◌∙◌, arith}
+use Rattle.std.proofs.Common.{rules, ◌+◌, ◌<◌, ◌∷◌, length, ap, ◌∙◌, arith}
 use Rattle.std.specs.Prelude.{◌^◌}
 use Rattle.nfsgw.specs.Held.{working, job_of, jobs_of, writes_of, entries_from, changed_by, side_with}
 use Rattle.nfsgw.specs.Answers.{answers_of}

@@ -1,4 +1,4 @@
-use Rattle.std.proofs.Common.{rules, ◌≡◌, ◌+◌, ◌<◌, length, refl, sym, ◌∙◌, arith}
+use Rattle.std.proofs.Common.{rules, ◌+◌, ◌<◌, length, refl}
 use Rattle.std.specs.Prelude.{◌^◌}
 use Rattle.gw_model.specs.Admission as admission
 use Rattle.nfsgw.proofs.Entering.{all_below, is_new, is_again}
@@ -15,8 +15,11 @@ accept-requires-clause-taken c =
 pub returns-in-Differs : goal.returns-in-Differs
 returns-in-Differs c =
     let above : c.self.inside.reach < c.args.call.offset + length c.args.call.content = search rules in
-    rw (c.refused.ensures, ← c.self.view_is) (refl, is_again c.self.inside.reach c.self.inside.top c.self.inside.pending.items c.self.inside.ranges.items c.self.inside.line.items c.self.inside.writer c.args.ticket.number c.args.call
-    admission.Differs (c.in-Differs.ensures c.args.ticket.number) (λ e. cc) above)
+    rw (c.refused.ensures, ← c.self.view_is) (
+      refl,
+      is_again c.self.inside.reach c.self.inside.top c.self.inside.pending.items c.self.inside.ranges.items c.self.inside.line.items c.self.inside.writer c.args.ticket.number c.args.call
+          admission.Differs (c.in-Differs.ensures c.args.ticket.number) (λ e. cc) above,
+    )
 
 pub returns-in-Unanswered : goal.returns-in-Unanswered
 returns-in-Unanswered c =
@@ -27,5 +30,8 @@ returns-in-Unanswered c =
 pub returns-in-Answered : goal.returns-in-Answered
 returns-in-Answered c =
     let above : c.self.inside.reach < c.args.call.offset + length c.args.call.content = search rules in
-    rw (c.wrote.ensures, c.len-in-Answered.ensures.value, ← c.self.view_is) (refl, is_again c.self.inside.reach c.self.inside.top c.self.inside.pending.items c.self.inside.ranges.items c.self.inside.line.items c.self.inside.writer c.args.ticket.number c.args.call
-    admission.Answered (c.in-Answered.ensures c.args.ticket.number) (λ e. cc) above)
+    rw (c.wrote.ensures, c.len-in-Answered.ensures.value, ← c.self.view_is) (
+      refl,
+      is_again c.self.inside.reach c.self.inside.top c.self.inside.pending.items c.self.inside.ranges.items c.self.inside.line.items c.self.inside.writer c.args.ticket.number c.args.call
+          admission.Answered (c.in-Answered.ensures c.args.ticket.number) (λ e. cc) above,
+    )

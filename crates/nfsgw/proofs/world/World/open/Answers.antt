@@ -1,4 +1,4 @@
-use Rattle.std.proofs.Common.{rules, ◌≡◌, false, None, is_some, ap, sym, ◌∙◌}
+use Rattle.std.proofs.Common.{◌≡◌, None, is_some, ap, sym, ◌∙◌}
 use Rattle.append_store.specs.State.{bytes_of}
 use Rattle.nfsgw.specs.Steps.{State}
 use Rattle.nfsgw.specs.Outside.{body_id}

@@ -1,4 +1,4 @@
-use Rattle.std.proofs.Common.{◌≡◌, ◌∷◌, [], ◌+◌, refl, string_bytes}
+use Rattle.std.proofs.Common.{◌∷◌, [], refl, string_bytes}
 use Rattle.std.specs.Option.{option_map}
 use Rattle.nfsgw.specs.Answers.{answer_of}
 use Rattle.nfsgw.specs.Outside.{body_at, faults_at}
@@ -14,8 +14,8 @@ pub returns-in-Some-turn-clause-ok : goal.returns-in-Some-turn-clause-ok
 returns-in-Some-turn-clause-ok g c = λ s n.
     rw (← c.self.view_is, c.in-Some-body.is)
     (if_ok c.answer.result (λ text said.
-        turn_steps g.F.AppendFile.tells _ _ c.in-Some.file c.turn.new.self (answer_of c.in-Some-turn.answer ∷ []) (string_bytes text) _ _ _ _ c.in-Some.is
-        (done_beside g.F.AppendFile.tells c.in-Some.file c.turn.new.self (answer_of c.in-Some-turn.answer ∷ []) _ _ n _ _ c.in-Some-turn.ensures.done) c.answer.ensures.desk said) c.answer.ensures.text)
+    turn_steps g.F.AppendFile.tells _ _ c.in-Some.file c.turn.new.self (answer_of c.in-Some-turn.answer ∷ []) (string_bytes text) _ _ _ _ c.in-Some.is
+    (done_beside g.F.AppendFile.tells c.in-Some.file c.turn.new.self (answer_of c.in-Some-turn.answer ∷ []) _ _ n _ _ c.in-Some-turn.ensures.done) c.answer.ensures.desk said) c.answer.ensures.text)
 
 pub returns-in-Some-turn-clause-err : goal.returns-in-Some-turn-clause-err
 returns-in-Some-turn-clause-err g c = λ s n.
