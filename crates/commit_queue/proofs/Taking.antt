@@ -1,6 +1,6 @@
 -- The laws of taking one after another.
-use Rattle.std.proofs.Common.{◌≡◌, ℕ, zero, suc, ◌<◌, ◌≤◌, Bool, true, false, not, cond, List, [], ◌∷◌, Option, None, Some, refl, sym, ap, arith, ◌+◌, nat_lt, length, get_or}
-use Rattle.std.specs.Prelude.{find, filter, nat_le, position}
+use Rattle.std.proofs.Common.{◌≡◌, ℕ, zero, suc, ◌<◌, ◌≤◌, Bool, true, false, not, cond, List, [], ◌∷◌, None, Some, refl, sym, ap, arith, ◌+◌, nat_lt, length, get_or}
+use Rattle.std.specs.Prelude.{find, filter, position}
 use Rattle.std.specs.List.{cons_option, position_or_len, remove}
 use Rattle.std.proofs.lemmas.Bool.{ltb-false}
 use Rattle.std.proofs.lemmas.List.Quantifiers.{position-Some}

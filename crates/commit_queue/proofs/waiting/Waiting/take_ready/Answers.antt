@@ -1,4 +1,4 @@
-use Rattle.std.proofs.Common.{◌≡◌, Option, Some, get_or, sym, ◌∙◌, ap}
+use Rattle.std.proofs.Common.{Some, get_or, sym, ◌∙◌, ap}
 use Rattle.std.specs.Prelude.{option_map}
 use Rattle.std.specs.List.{remove}
 use Rattle.commit_queue.specs.Queue.{Commit, QueueState}
