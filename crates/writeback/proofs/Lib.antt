@@ -1,0 +1,4 @@
+pub mod Notes
+pub mod Putting
+pub mod Comparing
+pub mod Fetching

@@ -1,0 +1,34 @@
+// What a writer owes, and how it is told.
+use gw_model::Stable;
+use tickets::Ticket;
+
+/// An append failed: how many bytes the file then had, and how many of them that append kept.
+#[derive(Clone, Copy, Debug, PartialEq, Eq)]
+pub struct Failed {
+    pub stored: u64,
+    pub kept: u64,
+}
+
+/// A ticket that waits for a sync.
+#[derive(Debug, Drop)]
+pub enum Owed {
+    Write {
+        ticket: Ticket,
+        count: u32,
+        stable: Stable,
+    },
+    Commit {
+        ticket: Ticket,
+    },
+}
+
+/// What became of those that waited.
+#[derive(Clone, Copy, Debug, PartialEq, Eq)]
+pub enum Fate {
+    /// A sync was done.
+    Durable,
+    /// A sync failed.
+    Fault,
+    /// The file was removed.
+    Removed,
+}
