@@ -85,6 +85,30 @@ fn keep(owed: &mut VecDeque<Owed>, next: Owed)
     }
 }
 
+// Reads what a file has and compares it with bytes, for which there is room in the buffer.
+fn compare_in<F: AppendFile>(
+    file: &mut F,
+    buffer: &mut [u8],
+    offset: u64,
+    bytes: &[u8],
+    trace: &mut Trace,
+) -> Compared
+    requires few { length bytes.now ≤ length buffer.old }
+    requires noted { 0 < trace.old.room }
+    ensures compared { IsSame F.tells bytes.now (range_of offset (length bytes.now) (F.content file.old)) result }
+    ensures notes { trace.new ≡ with_calls (compare_call result ∷ []) trace.old }
+    ensures file { Leaves F.tells [] (compare_call result ∷ [])
+        (record { object = F.mark file.old; content = F.content file.old; durable = F.durable file.old; faults = F.count file.old })
+        (record { object = F.mark file.new; content = F.content file.new; durable = F.durable file.new; faults = F.count file.new }) }
+{
+    let there = &mut buffer[..bytes.len()];
+    match calls::read_at(file, offset, there, trace) {
+        Ok(count) if bytes == &there[..count] => Compared::Same,
+        Ok(_) => Compared::Differs,
+        Err(_) => Compared::ReadFault,
+    }
+}
+
 // The answer to a READ, by what was read of its range.
 fn answer_found(alloc: Global, found: Found, eof: bool, ticket: Ticket) -> Answer
     ensures answer { answer_of result ≡ record { ticket = ticket.number; body = found_body found eof } }
@@ -172,7 +196,12 @@ impl<F: AppendFile> Writer<F> {
     }
 
     // The write of a job is stored: an UNSTABLE one is answered, another one waits for a sync.
-    fn answer_written(&mut self, ticket: Option<Ticket>, count: u32, stable: Stable) -> Option<Answer>
+    fn answer_written(
+        &mut self,
+        ticket: Option<Ticket>,
+        count: u32,
+        stable: Stable,
+    ) -> Option<Answer>
         requires room { length self.old.writer.owed < 1024 }
         requires none_left { self.old.left ≡ [] }
         ensures step { (t : Ahead) → written (is_unstable stable) (option_map (λ x. x.number) ticket) count stable self.old.writer t ≡ told self.new.writer (answers_of result) t }
@@ -243,7 +272,7 @@ impl<F: AppendFile> Writer<F> {
         Some(not_written(ticket, IO))
     }
 
-    // Reads what the file has and compares it with bytes, at most 1,048,576.
+    // Compares what the file has with bytes, at most 1,048,576.
     fn compare_with(&mut self, offset: u64, bytes: &[u8], trace: &mut Trace) -> Compared
         requires few { length bytes.now ≤ 1048576 }
         requires noted { 0 < trace.old.room }
@@ -252,12 +281,7 @@ impl<F: AppendFile> Writer<F> {
         ensures notes { trace.new ≡ with_calls (compare_call result ∷ []) trace.old }
         ensures file { Leaves F.tells [] (compare_call result ∷ []) self.old.file self.new.file }
     {
-        let there = &mut self.buffer[..bytes.len()];
-        match calls::read_at(&mut self.file, offset, there, trace) {
-            Ok(count) if bytes == &there[..count] => Compared::Same,
-            Ok(_) => Compared::Differs,
-            Err(_) => Compared::ReadFault,
-        }
+        compare_in(&mut self.file, &mut self.buffer, offset, bytes, trace)
     }
 
     // Does a Compare of at most 1,048,576 bytes.
