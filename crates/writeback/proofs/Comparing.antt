@@ -1,23 +1,22 @@
 -- What comes of a Compare and of a Settle.
-use Rattle.std.proofs.Common.{◌≡◌, ℕ, zero, suc, ◌+◌, ◌-◌, ◌<◌, ◌≤◌, min, Bool, true, false, Option, None, Some, List, [], ◌∷◌, ◌++◌, length, take, drop, refl, sym, ◌∙◌, ap, arith}
+use Rattle.std.proofs.Common.{◌≡◌, ℕ, zero, suc, ◌-◌, min, None, Some, List, [], ◌∷◌, ◌++◌, length, take, drop, refl, sym, ◌∙◌, ap, arith}
 use Rattle.std.proofs.Math.Seq.{take-append_seam}
 use Rattle.std.proofs.lemmas.List.{length-take, length-drop}
 use Rattle.gw_model.specs.declared.Stable.{Stable}
-use Rattle.gw_model.specs.Ahead.{Ahead, Called, Good, Bad}
+use Rattle.gw_model.specs.Ahead.{Ahead, Good, Bad}
 use Rattle.gw_model.specs.File as model
 use Rattle.gw_model.specs.File.{Answer, NotWritten, NotCommitted, Writer}
 use Rattle.gw_model.specs.Admission.{io, inval, is_unstable, same_bytes}
-use Rattle.gw_model.specs.Writer.{WriterStep, told, do_job, do_by, range_of, written, compared}
+use Rattle.gw_model.specs.Writer.{told, do_job, do_by, range_of, written, compared}
 use Rattle.gw_model.specs.Views.{Noted}
 use Rattle.append_store.specs.Calls.{part_at}
 use Rattle.tickets.specs.Desk.{TicketId}
 use Rattle.job_line.specs.declared.items.Job.TheVariants as job
 use Rattle.writeback.specs.declared.owed.Owed.TheVariants.{Commit}
-use Rattle.writeback.specs.declared.writer.Compared.{Compared}
 use Rattle.writeback.specs.declared.writer.Compared.TheVariants as how
 use Rattle.writeback.specs.Answers.{job_of}
-use Rattle.writeback.specs.State.{FileSeen, WriterState, owed_answer}
-use Rattle.writeback.specs.Steps.{Works, Leaves, IsSame, is_want, past, before, with_calls, compare_call}
+use Rattle.writeback.specs.State.{WriterState, owed_answer}
+use Rattle.writeback.specs.Steps.{Works, Leaves, IsSame, past, before, with_calls}
 use Rattle.writeback.proofs.Notes.{none_noted, unchanged}
 use Rattle.writeback.proofs.Putting.{no_want_by}
 

@@ -1,10 +1,10 @@
 -- What comes of a Fetch.
-use Rattle.std.proofs.Common.{◌≡◌, ℕ, zero, suc, ◌+◌, ◌-◌, ◌<◌, ◌≤◌, min, Bool, true, false, not, ◌&&◌, nat_lt, nat_le, nat_eq, Option, None, Some, List, [], ◌∷◌, ◌++◌, length, take, drop, refl, sym, ◌∙◌, ap, arith}
+use Rattle.std.proofs.Common.{◌≡◌, ℕ, zero, suc, ◌+◌, ◌-◌, ◌<◌, min, Bool, true, false, not, ◌&&◌, nat_lt, nat_le, nat_eq, Option, None, Some, List, [], ◌∷◌, ◌++◌, length, take, drop, refl, sym, ◌∙◌, ap, arith}
 use Rattle.std.proofs.Math.Seq.{take-append_seam}
-use Rattle.gw_model.specs.Ahead.{Ahead, Called, Good, Bad, refused, past_refusal}
+use Rattle.gw_model.specs.Ahead.{Ahead, Called, Good, Bad, past_refusal}
 use Rattle.gw_model.specs.File as model
 use Rattle.gw_model.specs.File.{Answer, Writer}
-use Rattle.gw_model.specs.Writer.{WriterStep, told, do_job, do_by, range_of, fetch, fetch_if, fetched}
+use Rattle.gw_model.specs.Writer.{told, do_job, do_by, range_of, fetch, fetch_if, fetched}
 use Rattle.gw_model.specs.Admission.{io}
 use Rattle.gw_model.specs.Views.{Noted}
 use Rattle.tickets.specs.Desk.{TicketId}
@@ -12,8 +12,8 @@ use Rattle.job_line.specs.declared.items.Job.TheVariants as job
 use Rattle.writeback.specs.declared.writer.Found.{Found}
 use Rattle.writeback.specs.declared.writer.Found.TheVariants as found
 use Rattle.writeback.specs.Answers.{job_of}
-use Rattle.writeback.specs.State.{FileSeen, WriterState, state_with}
-use Rattle.writeback.specs.Steps.{Works, Leaves, IsFound, IsRead, is_want, past, before, with_calls, read_calls, found_body}
+use Rattle.writeback.specs.State.{WriterState}
+use Rattle.writeback.specs.Steps.{Works, Leaves, IsFound, IsRead, past, before, with_calls, found_body}
 use Rattle.writeback.proofs.Notes.{none_noted, unchanged}
 
 -- a read that was made

@@ -2,3 +2,4 @@ pub mod Notes
 pub mod Putting
 pub mod Comparing
 pub mod Fetching
+pub mod Syncing

@@ -1,6 +1,5 @@
 -- Where no call is made, nothing is noted, and the file stays as it is.
-use Rattle.std.proofs.Common.{◌≡◌, ℕ, ◌-◌, ◌+◌, ◌≤◌, true, false, Option, None, Some, is_some, List, [], ◌∷◌, ◌++◌, length, map, refl, sym, ◌∙◌, ap, append-nil, arith}
-use Rattle.gw_model.specs.Ahead.{Outcome}
+use Rattle.std.proofs.Common.{◌≡◌, ℕ, ◌-◌, true, false, Option, None, Some, is_some, List, [], ◌++◌, refl, sym, ◌∙◌, ap, append-nil, arith}
 use Rattle.gw_model.specs.Views.{Noted}
 use Rattle.gw_model.specs.File as model
 use Rattle.std.specs.Option.{option_map}

@@ -1,11 +1,10 @@
 -- What comes of a Put.
-use Rattle.std.proofs.Common.{◌≡◌, ℕ, zero, suc, ◌+◌, ◌-◌, ◌<◌, ◌≤◌, max, min, Bool, true, false, Option, None, Some, List, [], ◌∷◌, ◌++◌, length, take, is_some, refl, sym, ◌∙◌, ap, arith}
+use Rattle.std.proofs.Common.{◌≡◌, ℕ, ◌+◌, ◌<◌, ◌≤◌, max, min, Bool, true, false, Option, None, Some, List, [], ◌∷◌, length, take, is_some, refl, sym, ◌∙◌, ap, arith}
 use Rattle.std.specs.Option.{option_map}
 use Rattle.std.proofs.lemmas.List.{length-take}
 use Rattle.gw_model.specs.declared.Stable.{Stable}
-use Rattle.gw_model.specs.Ahead.{Ahead, Called, Good, Bad}
-use Rattle.gw_model.specs.File as model
-use Rattle.gw_model.specs.File.{Answer, NotWritten, Wrote, Writer}
+use Rattle.gw_model.specs.Ahead.{Ahead, Good, Bad}
+use Rattle.gw_model.specs.File.{Answer, NotWritten, Writer}
 use Rattle.gw_model.specs.Admission.{io, answer_if, is_unstable}
 use Rattle.gw_model.specs.Writer.{WriterStep, told, do_job, lost, written}
 use Rattle.gw_model.specs.Views.{Noted}
@@ -15,7 +14,7 @@ use Rattle.writeback.specs.declared.owed.Failed.{Failed}
 use Rattle.writeback.specs.declared.owed.Owed.{Owed}
 use Rattle.writeback.specs.declared.owed.Fate.{Fate}
 use Rattle.writeback.specs.State.{FileSeen, WriterState, state_with}
-use Rattle.writeback.specs.Steps.{Works, Puts, Leaves, IsWant, is_want, past, with_calls}
+use Rattle.writeback.specs.Steps.{Works, Puts, Leaves, is_want, past, with_calls}
 use Rattle.writeback.proofs.Notes.{none_noted, unchanged}
 
 module _ (tells : Type 0) (bytes : List ℕ) (stored synced : ℕ) (fate : Option Fate) (owed : List Owed) (noted : Noted) where

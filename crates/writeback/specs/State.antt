@@ -1,5 +1,5 @@
 -- What contracts see of a writer.
-use Rattle.std.specs.Prelude.{ℕ, List, [], map, Option, Some, None}
+use Rattle.std.specs.Prelude.{ℕ, List, [], ◌++◌, map, Option, Some, None}
 use Rattle.std.specs.Option.{option_map}
 use Rattle.gw_model.specs.declared.object.ObjectId.{ObjectId}
 use Rattle.gw_model.specs.File as model
@@ -39,10 +39,14 @@ abbrev pub owed_answer : Owed → Answer
 owed_answer (Write ticket count level) = record { ticket = ticket.number; body = Wrote count level }
 owed_answer (Commit ticket) = record { ticket = ticket.number; body = Committed }
 
-abbrev pub fated : Fate → Answer → Answer
-fated Durable a = a
-fated Fault a = refused_answer io a
-fated Removed a = refused_answer stale_file a
+abbrev pub fated : Fate → List Answer → List Answer
+fated Durable answers = answers
+fated Fault answers = map (refused_answer io) answers
+fated Removed answers = map (refused_answer stale_file) answers
+
+-- all that wait are answered, and wait no more
+abbrev pub with_all : Fate → WriterState → WriterState
+with_all fate w = record w { writer = record w.writer { owed = [] }; left = w.left ++ fated fate w.writer.owed }
 
 -- those that wait, and those that wait no more
 abbrev pub waiting_by : Option Fate → List Answer → List Answer
@@ -51,7 +55,7 @@ waiting_by (Some fate) answers = []
 
 abbrev pub left_by : Option Fate → List Answer → List Answer
 left_by None answers = []
-left_by (Some fate) answers = map (fated fate) answers
+left_by (Some fate) answers = fated fate answers
 
 abbrev pub state_with : ℕ → ℕ → Option Failed → Option Fate → List Owed → FileSeen → WriterState
 state_with stored synced failed fate owed file = record {

@@ -1,19 +1,23 @@
 -- What the calls of a writer do: the step of the definitions, the outcomes noted, and what is left of the file.
-use Rattle.std.specs.Prelude.{◌≡◌, ℕ, zero, suc, ◌<◌, ◌+◌, ◌-◌, ◌^◌, ◌≤◌, ◌&&◌, min, Bool, true, false, List, [], ◌∷◌, ◌++◌, map, length, take, Option, Some, None, Result, Ok, Err}
+use Rattle.std.specs.Prelude.{◌≡◌, ℕ, zero, suc, ◌<◌, ◌+◌, ◌-◌, ◌^◌, ◌≤◌, ◌&&◌, min, Bool, true, false, List, [], ◌∷◌, ◌++◌, map, length, take, Option, None, Result, Ok, Err}
 use Rattle.gw_model.specs.Ahead.{Ahead, Outcome, Done, Failed, Called, Good, Bad, refused, past_refusal}
 use Rattle.gw_model.specs.declared.Stable.{Stable}
 use Rattle.gw_model.specs.File as model
 use Rattle.gw_model.specs.File.{Answer, Body, Gave, NotGiven, SystemErr, NotWritten, Writer}
-use Rattle.gw_model.specs.Admission.{io, inval, answer_if, is_unstable, same_bytes}
-use Rattle.gw_model.specs.Writer.{WriterStep, told, do_job, sync_writer, range_of, written}
+use Rattle.gw_model.specs.Admission.{io, answer_if, is_unstable, same_bytes}
+use Rattle.gw_model.specs.Writer.{WriterStep, told, do_job, range_of, written}
 use Rattle.gw_model.specs.Views.{Noted}
 use Rattle.append_store.specs.declared.store.AppendFault.{AppendFault}
 use Rattle.job_line.specs.declared.items.Job.{Job}
 use Rattle.job_line.specs.declared.items.Job.TheVariants as job
-use Rattle.writeback.specs.Answers.{task_of, ticket_of, job_of}
+use Rattle.writeback.specs.Answers.{job_of}
 use Rattle.writeback.specs.State.{FileSeen, WriterState}
 use Rattle.writeback.specs.declared.writer.Compared.{Compared}
 use Rattle.writeback.specs.declared.writer.Compared.TheVariants as compared
+use Rattle.writeback.specs.declared.owed.Fate.{Fate}
+use Rattle.writeback.specs.declared.owed.Fate.TheVariants.{Durable, Fault}
+use Rattle.writeback.specs.declared.owed.Synced.{Synced}
+use Rattle.writeback.specs.declared.owed.Synced.TheVariants as synced
 use Rattle.writeback.specs.declared.writer.Found.{Found}
 use Rattle.writeback.specs.declared.writer.Found.TheVariants as found
 
@@ -174,3 +178,30 @@ abbrev pub found_body : Found → Bool → Body
 found_body (found.Bytes bytes) eof = Gave bytes.items eof
 found_body found.ReadFault eof = NotGiven io
 found_body found.NoMemory eof = SystemErr
+
+-- a sync
+
+abbrev pub sync_call : Synced → Called
+sync_call synced.Done = Good
+sync_call synced.Failed = Bad 0
+
+-- A step of the definition's writer whose answers are handed out later, in order.
+pub record Gives (s : WriterStep) (old new : WriterState) (t : Ahead) : Type 0 where
+  pub writer : new.writer ≡ s.writer
+  pub left : new.left ≡ old.left ++ s.answers
+  pub ahead : s.ahead ≡ t
+
+-- after an hsync that was done the whole file is durable
+abbrev pub IsDurable : Type 0 → Synced → FileSeen → Type 0
+IsDurable tells synced.Done file = tells → file.durable ≡ length file.content
+IsDurable tells synced.Failed file = Unit {0}
+
+-- what an hsync makes of the synced length
+abbrev pub synced_by : Synced → Writer → Writer
+synced_by synced.Done w = record w { synced = w.stored }
+synced_by synced.Failed w = w
+
+-- what becomes of those that waited
+abbrev pub fate_after : Synced → Fate
+fate_after synced.Done = Durable
+fate_after synced.Failed = Fault

@@ -1,9 +1,12 @@
 // Answers, by the statuses of NFS version 3 (RFC 1813 section 2.6).
-ghost use Rattle.std.specs.Prelude.{◌≡◌, ◌<◌, ◌≤◌};
+ghost use Rattle.std.specs.Prelude.{◌≡◌, ◌<◌, ◌≤◌, [], ◌∷◌};
 ghost use Rattle.gw_model.specs.File.{Wrote, NotGiven};
 ghost use Rattle.tickets.specs.declared.answer.Body.TheVariants.{Write as WriteBody, Commit as CommitBody, Read as ReadBody, SystemErr as SystemErrBody};
+ghost use Rattle.gw_model.specs.Writer.{refused_answer};
+ghost use Rattle.writeback.specs.State.{fated, owed_answer};
 ghost use Rattle.writeback.specs.Answers.{level_of, answer_of, IsPlain};
 
+use crate::owed::{Fate, Owed};
 use gw_model::Stable;
 use std::alloc::Global;
 use tickets::{Answer, Body, Ticket};
@@ -105,5 +108,44 @@ pub fn no_memory(ticket: Ticket) -> Answer
     Answer {
         ticket,
         body: Body::SystemErr,
+    }
+}
+
+// The answer to one that waited, and is durable.
+fn done(owed: Owed) -> Answer
+    ensures answer { answer_of result ≡ owed_answer owed }
+    ensures plain { IsPlain result.body }
+{
+    match owed {
+        Owed::Write {
+            ticket,
+            count,
+            stable,
+        } => wrote(ticket, count, stable),
+        Owed::Commit { ticket } => committed(ticket, 0),
+    }
+}
+
+// The answer to one that waited, and is refused.
+fn refused(owed: Owed, status: u32) -> Answer
+    requires { 0 < status }
+    ensures answer { answer_of result ≡ refused_answer status (owed_answer owed) }
+    ensures plain { IsPlain result.body }
+{
+    match owed {
+        Owed::Write { ticket, .. } => not_written(ticket, status),
+        Owed::Commit { ticket } => committed(ticket, status),
+    }
+}
+
+/// The answer to one that waited, by what became of it.
+pub fn settled(owed: Owed, fate: Fate) -> Answer
+    ensures answer { answer_of result ∷ [] ≡ fated fate (owed_answer owed ∷ []) }
+    ensures plain { IsPlain result.body }
+{
+    match fate {
+        Fate::Durable => done(owed),
+        Fate::Fault => refused(owed, IO),
+        Fate::Removed => refused(owed, STALE),
     }
 }

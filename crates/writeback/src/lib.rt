@@ -7,5 +7,8 @@ mod calls;
 mod owed;
 mod writer;
 
-pub use owed::Failed;
+pub use owed::{Failed, Synced};
 pub use writer::Writer;
+
+#[cfg(test)]
+mod tests;

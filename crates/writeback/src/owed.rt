@@ -32,3 +32,11 @@ pub enum Fate {
     /// The file was removed.
     Removed,
 }
+
+/// How a sync went.
+#[derive(Clone, Copy, Debug, PartialEq, Eq)]
+pub enum Synced {
+    Done,
+    /// The file's hsync failed.
+    Failed,
+}

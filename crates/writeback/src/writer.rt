@@ -1,21 +1,24 @@
 // The writer of an open file.
-ghost use Rattle.std.specs.Prelude.{◌≡◌, ℕ, ◌+◌, ◌-◌, ◌<◌, ◌≤◌, ◌∷◌, ◌++◌, ◌^◌, [], IfOk, IfErr, None, length, min, nat_le, nat_lt};
+ghost use Rattle.std.specs.Prelude.{◌≡◌, ℕ, ◌+◌, ◌-◌, ◌<◌, ◌≤◌, ◌∷◌, ◌++◌, ◌^◌, [], IfOk, IfErr, None, drop, length, min, nat_le, nat_lt, slice_get};
 ghost use Rattle.std.specs.Option.{option_map};
 ghost use Rattle.std.specs.VecDeque.{deque_len, deque_capacity};
-ghost use Rattle.gw_model.specs.Ahead.{Ahead};
+ghost use Rattle.gw_model.specs.Ahead.{Ahead, Good, Bad};
 ghost use Rattle.gw_model.specs.Admission.{is_unstable};
 ghost use Rattle.gw_model.specs.Views.{Noted};
-ghost use Rattle.gw_model.specs.Writer.{told, written, range_of};
+ghost use Rattle.gw_model.specs.Writer.{told, written, range_of, sync_writer};
 ghost use Rattle.job_line.specs.declared.items.Job.TheVariants.{Put as PutJob, Compare as CompareJob, Fetch as FetchJob, Settle as SettleJob};
 ghost use Rattle.job_line.specs.Items.{put_size};
 ghost use Rattle.writeback.specs.Answers.{answer_of, answers_of, size_of, IsPlain, ArePlain};
-ghost use Rattle.writeback.specs.State.{fresh, failure_of, owed_answer};
-ghost use Rattle.writeback.specs.Steps.{Works, Puts, IsFound, IsSame, Leaves, compare_call, found_body, with_calls};
+ghost use Rattle.writeback.specs.State.{fresh, failure_of, owed_answer, with_all};
+ghost use Rattle.writeback.specs.declared.owed.Fate.TheVariants.{Removed};
+ghost use Rattle.writeback.specs.Steps.{Works, Puts, IsFound, IsSame, Leaves, Gives, IsDurable, before, compare_call, fate_after, found_body, plain_call, sync_call, synced_by, with_calls};
 
-use crate::answers::{INVAL, IO, committed, gave, no_memory, not_given, not_written, wrote};
+use crate::answers::{
+    INVAL, IO, committed, gave, no_memory, not_given, not_written, settled, wrote,
+};
 use crate::calls;
-use crate::owed::{Failed, Fate, Owed};
-use append_store::AppendFile;
+use crate::owed::{Failed, Fate, Owed, Synced};
+use append_store::{AppendFile, StoreFault};
 use bytes::Bytes;
 use gw_model::{Stable, Trace};
 use job_line::Job;
@@ -106,6 +109,16 @@ fn compare_in<F: AppendFile>(
         Ok(count) if bytes == &there[..count] => Compared::Same,
         Ok(_) => Compared::Differs,
         Err(_) => Compared::ReadFault,
+    }
+}
+
+// What becomes of those that waited for a sync.
+fn fate_after(synced: Synced) -> Fate
+    ensures { result ≡ fate_after synced }
+{
+    match synced {
+        Synced::Done => Fate::Durable,
+        Synced::Failed => Fate::Fault,
     }
 }
 
@@ -410,6 +423,65 @@ impl<F: AppendFile> Writer<F> {
         }
     }
 
+    // All that wait are answered so, by `next_answer`, and wait no more.
+    fn give_up(&mut self, fate: Fate)
+        ensures { self.new ≡ with_all fate self.old }
+    {
+        if self.fate.is_none() {
+            self.fate = Some(fate);
+        }
+    }
+
+    // Calls hsync.
+    fn sync_file(&mut self, trace: &mut Trace) -> Synced
+        requires noted { 0 < trace.old.room }
+        ensures new { self.new ≡ record self.old { writer = synced_by result self.old.writer; file = self.new.file } }
+        ensures notes { trace.new ≡ with_calls (sync_call result ∷ []) trace.old }
+        ensures file { Leaves F.tells [] (sync_call result ∷ []) self.old.file self.new.file }
+        ensures durable { IsDurable F.tells result self.new.file }
+    {
+        match calls::hsync(&mut self.file, trace) {
+            Ok(()) => {
+                self.synced = self.stored;
+                Synced::Done
+            }
+            Err(_) => Synced::Failed,
+        }
+    }
+
+    /// Makes what is stored durable, by one call of hsync. Then `next_answer` gives the answers to those that waited, in
+    /// the order in which they began to wait: as they asked, or `NFS3ERR_IO` where hsync failed. The writer goes on
+    /// working then.
+    pub fn sync(&mut self, trace: &mut Trace) -> Synced
+        requires noted { 0 < trace.old.room }
+        ensures step { (t : Ahead) → Gives (sync_writer self.old.writer (before (sync_call result ∷ []) t)) self.old self.new t }
+        ensures notes { trace.new ≡ with_calls (sync_call result ∷ []) trace.old }
+        ensures file { Leaves F.tells [] (sync_call result ∷ []) self.old.file self.new.file }
+        ensures durable { IsDurable F.tells result self.new.file }
+    {
+        let synced = self.sync_file(trace);
+        self.give_up(fate_after(synced));
+        synced
+    }
+
+    /// The file is removed: those that wait are answered `NFS3ERR_STALE`, in order, by `next_answer`.
+    pub fn remove(&mut self)
+        ensures { self.new ≡ with_all Removed self.old }
+    {
+        self.give_up(Fate::Removed);
+    }
+
+    /// The next answer of a sync or of a removal, or none where none is left.
+    pub fn next_answer(&mut self) -> Option<Answer>
+        ensures first { option_map answer_of result ≡ slice_get self.old.left 0 }
+        ensures rest { self.new ≡ record self.old { left = drop 1 self.old.left } }
+        ensures plain { ArePlain result }
+    {
+        let fate = self.fate?;
+        let next = self.owed.pop_front()?;
+        Some(settled(next, fate))
+    }
+
     /// Gives the file back, without a call on it.
     pub fn into_file(self) -> F
         requires none_waits { self.writer.owed ≡ [] }
@@ -427,5 +499,23 @@ impl<F: AppendFile> Writer<F> {
             alloc: _,
         } = self;
         file
+    }
+
+    /// Makes the whole file durable, by one call of hsync, and gives it back. Where that fails the writer stays as it is.
+    pub fn finish(self, trace: &mut Trace) -> Result<F, (Writer<F>, StoreFault)>
+        requires none_waits { self.writer.owed ≡ [] }
+        requires none_left { self.left ≡ [] }
+        requires noted { 0 < trace.old.room }
+        ensures done { IfOk result (λ file. F.tells → F.durable file ≡ length (F.content file)) }
+        ensures file { IfOk result (λ file. Leaves F.tells [] (Good ∷ []) self.file (record { object = F.mark file; content = F.content file; durable = F.durable file; faults = F.count file })) }
+        ensures err { IfErr result (λ back. back.0 ≡ record self { file = back.0.file }) }
+        ensures err_file { IfErr result (λ back. Leaves F.tells [] (Bad 0 ∷ []) self.file back.0.file) }
+        ensures notes { trace.new ≡ with_calls (plain_call result ∷ []) trace.old }
+    {
+        let mut writer = self;
+        match calls::hsync(&mut writer.file, trace) {
+            Ok(()) => Ok(writer.into_file()),
+            Err(fault) => Err((writer, fault)),
+        }
     }
 }

@@ -1,4 +1,4 @@
-use Rattle.std.proofs.Common.{rules, ◌≡◌, ◌<◌, true, false, is_some, length, arith}
+use Rattle.std.proofs.Common.{rules, ◌≡◌, ◌<◌, true, false, is_some, length}
 use Rattle.writeback.proofs.Putting.{put_failed, put_none, put_good, put_bad}
 use Rattle.writeback.proofs.writer.Writer.append.Goals as goal
 

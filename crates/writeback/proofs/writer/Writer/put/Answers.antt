@@ -1,5 +1,4 @@
-use Rattle.std.proofs.Common.{rules, ◌<◌, length, ap}
-use Rattle.writeback.proofs.Putting.{put_works, put_fails}
+use Rattle.writeback.proofs.Putting.{put_works}
 use Rattle.writeback.proofs.writer.Writer.put.Goals as goal
 
 pub answer_written-requires-clause-room : goal.answer_written-requires-clause-room

@@ -1,4 +1,4 @@
-use Rattle.std.proofs.Common.{rules, ◌≡◌, ◌<◌, suc, take, length, sym, refl, ◌∙◌, ap, arith}
+use Rattle.std.proofs.Common.{rules, ◌≡◌, ◌<◌, take, length, refl, ◌∙◌, ap, arith}
 use Rattle.std.specs.Vec.{vec_len}
 use Rattle.writeback.proofs.Comparing.{read_is}
 use Rattle.writeback.proofs.Fetching.{read_some, take_front}
