@@ -36,6 +36,7 @@ pub enum Fate {
 /// How a sync went.
 #[derive(Clone, Copy, Debug, PartialEq, Eq)]
 pub enum Synced {
+    /// What was stored is durable.
     Done,
     /// The file's hsync failed.
     Failed,

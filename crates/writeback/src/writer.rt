@@ -49,7 +49,7 @@ pub enum Found {
     NoMemory,
 }
 
-/// The writer side of an open file: it alone calls the file.
+/// The writer side of an open file: it alone calls the file. Each call on it is noted in a trace.
 #[derive(Drop)]
 pub struct Writer<F: AppendFile> {
     file: F,
@@ -135,7 +135,8 @@ fn answer_found(alloc: Global, found: Found, eof: bool, ticket: Ticket) -> Answe
 }
 
 impl<F: AppendFile> Writer<F> {
-    /// The writer of a file. Takes memory: room for 1,024 tickets, and for 1,048,576 bytes to compare.
+    /// The writer of a file. Takes memory: room for 1,024 tickets, and for 1,048,576 bytes to compare. Hands the file back
+    /// where it is refused.
     pub fn new(alloc: Global, file: F) -> Result<Writer<F>, F>
         ensures ok { IfOk result (λ w. w ≡ record { writer = fresh (length (F.content file)); left = []; file = record { object = F.mark file; content = F.content file; durable = F.durable file; faults = F.count file } }) }
         ensures err { IfErr result (λ back. back ≡ file) }
@@ -390,7 +391,10 @@ impl<F: AppendFile> Writer<F> {
     /// there, and is else as a Put that was done: an UNSTABLE write is answered at once, another one waits for a sync. A
     /// Settle waits for a sync. Where a call on the file fails the answer is `NFS3ERR_IO`; after an append that failed it
     /// is that for each job but a Fetch. A Fetch is answered what is stored of its range, or `SystemErr` where memory was
-    /// refused.
+    /// refused, and then nothing changed.
+    ///
+    /// It is called where there is room for a ticket, where no answer of a sync is left, and where the trace has room for a
+    /// note. A job brings at most 1,048,576 bytes, and what it appends keeps the stored length a `u64`.
     pub fn turn(&mut self, job: Job, trace: &mut Trace) -> Option<Answer>
         requires room { length self.old.writer.owed < 1024 }
         requires none_left { self.old.left ≡ [] }
@@ -451,7 +455,7 @@ impl<F: AppendFile> Writer<F> {
 
     /// Makes what is stored durable, by one call of hsync. Then `next_answer` gives the answers to those that waited, in
     /// the order in which they began to wait: as they asked, or `NFS3ERR_IO` where hsync failed. The writer goes on
-    /// working then.
+    /// working then. The trace has room for a note. Takes no memory.
     pub fn sync(&mut self, trace: &mut Trace) -> Synced
         requires noted { 0 < trace.old.room }
         ensures step { (t : Ahead) → Gives (sync_writer self.old.writer (before (sync_call result ∷ []) t)) self.old self.new t }
@@ -464,7 +468,8 @@ impl<F: AppendFile> Writer<F> {
         synced
     }
 
-    /// The file is removed: those that wait are answered `NFS3ERR_STALE`, in order, by `next_answer`.
+    /// The file is removed: those that wait are answered `NFS3ERR_STALE`, in order, by `next_answer`. Takes no
+    /// memory, and makes no call on the file.
     pub fn remove(&mut self)
         ensures { self.new ≡ with_all Removed self.old }
     {
