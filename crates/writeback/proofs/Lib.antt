@@ -1,0 +1,5 @@
+pub mod Notes
+pub mod Putting
+pub mod Comparing
+pub mod Fetching
+pub mod Syncing
