@@ -1,0 +1,24 @@
+// Arguments with more than one file (RFC 1813 sections 3.3.14, 3.3.15).
+ghost use Rattle.nfs_wire.specs.Faults.{Gives};
+ghost use Rattle.nfs_wire.specs.Arguments.{rename_at, link_at};
+
+use crate::items::Items;
+use crate::{Args, ArgsFault};
+
+#[tactic(auto, unfolding(crate::specs::Arguments::rename_at))]
+pub fn rename(items: &mut Items<'_>) -> Result<Args, ArgsFault>
+    ensures { Gives (λ a. (a, items.new)) result (rename_at items.old) }
+{
+    let from = items.dir_op()?;
+    let to = items.dir_op()?;
+    Ok(Args::Rename { from, to })
+}
+
+#[tactic(auto, unfolding(crate::specs::Arguments::link_at))]
+pub fn link(items: &mut Items<'_>) -> Result<Args, ArgsFault>
+    ensures { Gives (λ a. (a, items.new)) result (link_at items.old) }
+{
+    let handle = items.handle()?;
+    let place = items.dir_op()?;
+    Ok(Args::Link { handle, place })
+}
