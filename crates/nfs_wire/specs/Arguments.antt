@@ -109,7 +109,7 @@ args_row (args.Lookup place) = place_row place
 args_row (args.Access handle mask) = handle_item handle ∷ Word mask ∷ []
 args_row (args.Readlink handle) = handle_row handle
 args_row (args.Read handle offset count) = handle_item handle ∷ Long offset ∷ Word count ∷ []
-args_row (args.Write handle offset count stable bytes) = handle_item handle ∷ Long offset ∷ Word count ∷ Word (stable_number stable) ∷ Opaque 1048576 bytes ∷ []
+args_row (args.Write handle offset count level bytes) = handle_item handle ∷ Long offset ∷ Word count ∷ Word (stable_number level) ∷ Opaque 1048576 bytes ∷ []
 args_row (args.Create place how) = place_row place ++ how_row how
 args_row (args.Mkdir place set) = place_row place ++ set_row set
 args_row (args.Symlink place set path) = place_row place ++ (set_row set ++ path_row path)
@@ -141,31 +141,31 @@ mount = 100005
 
 abbrev pub asked : Args → ℕ × ℕ
 asked args.Null = (nfs, 0)
-asked (args.Getattr handle) = (nfs, 1)
-asked (args.Setattr handle set guard) = (nfs, 2)
-asked (args.Lookup place) = (nfs, 3)
-asked (args.Access handle mask) = (nfs, 4)
-asked (args.Readlink handle) = (nfs, 5)
-asked (args.Read handle offset count) = (nfs, 6)
-asked (args.Write handle offset count stable bytes) = (nfs, 7)
-asked (args.Create place how) = (nfs, 8)
-asked (args.Mkdir place set) = (nfs, 9)
-asked (args.Symlink place set path) = (nfs, 10)
-asked (args.Mknod place kind) = (nfs, 11)
-asked (args.Remove place) = (nfs, 12)
-asked (args.Rmdir place) = (nfs, 13)
-asked (args.Rename «from» to) = (nfs, 14)
-asked (args.Link handle place) = (nfs, 15)
-asked (args.Readdir handle cookie verifier count) = (nfs, 16)
-asked (args.Readdirplus handle cookie verifier dircount maxcount) = (nfs, 17)
-asked (args.Fsstat handle) = (nfs, 18)
-asked (args.Fsinfo handle) = (nfs, 19)
-asked (args.Pathconf handle) = (nfs, 20)
-asked (args.Commit handle offset count) = (nfs, 21)
+asked (args.Getattr _) = (nfs, 1)
+asked (args.Setattr _ _ _) = (nfs, 2)
+asked (args.Lookup _) = (nfs, 3)
+asked (args.Access _ _) = (nfs, 4)
+asked (args.Readlink _) = (nfs, 5)
+asked (args.Read _ _ _) = (nfs, 6)
+asked (args.Write _ _ _ _ _) = (nfs, 7)
+asked (args.Create _ _) = (nfs, 8)
+asked (args.Mkdir _ _) = (nfs, 9)
+asked (args.Symlink _ _ _) = (nfs, 10)
+asked (args.Mknod _ _) = (nfs, 11)
+asked (args.Remove _) = (nfs, 12)
+asked (args.Rmdir _) = (nfs, 13)
+asked (args.Rename _ _) = (nfs, 14)
+asked (args.Link _ _) = (nfs, 15)
+asked (args.Readdir _ _ _ _) = (nfs, 16)
+asked (args.Readdirplus _ _ _ _ _) = (nfs, 17)
+asked (args.Fsstat _) = (nfs, 18)
+asked (args.Fsinfo _) = (nfs, 19)
+asked (args.Pathconf _) = (nfs, 20)
+asked (args.Commit _ _ _) = (nfs, 21)
 asked args.MountNull = (mount, 0)
-asked (args.Mnt path) = (mount, 1)
+asked (args.Mnt _) = (mount, 1)
 asked args.Dump = (mount, 2)
-asked (args.Umnt path) = (mount, 3)
+asked (args.Umnt _) = (mount, 3)
 asked args.Umntall = (mount, 4)
 asked args.Export = (mount, 5)
 
@@ -253,7 +253,7 @@ unfoldable pub commit_at : Cursor → Reading Args
 commit_at = made commit_of (handle_at & u64_at & u32_at)
 
 -- the procedures of NFS and of MOUNT, by their numbers
-abbrev pub nfs_arms : List (ℕ × (Cursor → Reading Args))
+unfoldable pub nfs_arms : List (ℕ × (Cursor → Reading Args))
 nfs_arms =
     (0, given args.Null)
     ∷ (1, made args.Getattr handle_at)
@@ -279,7 +279,7 @@ nfs_arms =
     ∷ (21, commit_at)
     ∷ []
 
-abbrev pub mount_arms : List (ℕ × (Cursor → Reading Args))
+unfoldable pub mount_arms : List (ℕ × (Cursor → Reading Args))
 mount_arms =
     (0, given args.MountNull)
     ∷ (1, made args.Mnt path_at)

@@ -1,3 +1,7 @@
 pub mod Faults
 pub mod Places
 pub mod Arguments
+pub mod Lists
+pub mod Results
+pub mod Views
+pub mod Short

@@ -112,6 +112,7 @@ impl<'a> Items<'a> {
         requires { StandsIn message.now self.old }
         ensures { Gives (λ v. (v, self.new)) result (data_at self.old) }
     {
+        let _length = message.len();
         let place = self.reader.place();
         let len = self.reader.take_opaque(MOST_DATA)?.len();
         let first = place + 4;

@@ -32,10 +32,16 @@ pub fn read_args(alloc: Global, prog: u32, proc_no: u32, args: Bytes) -> Result<
         MOUNT_PROGRAM => mount_args(&mut items, proc_no)?,
         _ => return Err(ArgsFault::Garbage { place: 0 }),
     };
-    items.finish()?;
-    Ok(value)
+    match items.finish() {
+        Ok(()) => Ok(value),
+        Err(fault) => {
+            drop(value);
+            Err(fault)
+        }
+    }
 }
 
+#[tactic(auto, unfolding(crate::specs::Arguments::nfs_arms))]
 fn nfs_args(items: &mut Items<'_>, message: &Bytes, proc_no: u32) -> Result<Args, ArgsFault>
     requires { items.old ≡ start message.now }
     ensures { Gives (λ a. (a, items.new)) result (arm_at nfs_arms proc_no 0 items.old) }
@@ -67,6 +73,7 @@ fn nfs_args(items: &mut Items<'_>, message: &Bytes, proc_no: u32) -> Result<Args
     }
 }
 
+#[tactic(auto, unfolding(crate::specs::Arguments::mount_arms))]
 fn mount_args(items: &mut Items<'_>, proc_no: u32) -> Result<Args, ArgsFault>
     ensures { Gives (λ a. (a, items.new)) result (arm_at mount_arms proc_no 0 items.old) }
 {
