@@ -253,8 +253,8 @@ reads_nothing x h c d t = ap (got x) (none_taken c d (moved c d d (results_row x
 reads_told : {A : Type 0} (make : A → Results) (r : Cursor → Reading A) (p : A → List Item) → IsExact r p → (x : A) → results_row (make x) ≡ p x → Reads (made make r) (make x)
 reads_told make r p f x h c d t = made_back make r p f c d x (moved c d d (results_row (make x)) (p x) h refl t)
 
-reads_done : {A : Type 0} (zeros : ℕ) (make : A → Results) (r : Cursor → Reading A) (p : A → List Item) → IsExact r p → (x : A) → results_row (make x) ≡ Word 0 ∷ p x → Reads (by_status (made make r) zeros) (make x)
-reads_done zeros make r p f x h c d t =
+reads_done : {A : Type 0} (count : ℕ) (make : A → Results) (r : Cursor → Reading A) (p : A → List Item) → IsExact r p → (x : A) → results_row (make x) ≡ Word 0 ∷ p x → Reads (by_status (made make r) count) (make x)
+reads_done count make r p f x h c d t =
     let k = takes_parts c d (word_row 0) (p x) (moved c d d (results_row (make x)) (Word 0 ∷ p x) h refl t) in
     bind_is (u32_at c) _ (0, k.between) _ ((exact_u32 c k.between 0).1 k.first) (made_back make r p f k.between d x k.second)
 
@@ -299,11 +299,11 @@ reads_refused status zeros r ne c d t =
     let read = made_back (λ u. results.Refused status zeros) (zeros_at zeros) (λ u. zeros_row zeros) (exact_zeros zeros) b d tt k.second in
     bind_is (u32_at c) _ (status, b) _ ((exact_u32 c b status).1 k.first) (ap (λ (t : Bool). cond t (r b) (made (λ u. results.Refused status zeros) (zeros_at zeros) b)) (ne_eqb status 0 ne) ∙ read)
 
-find_refused : (status zeros : ℕ) → status ≢ 0 → (answers : List (ℕ × Answer)) (n : ℕ) → zeros_in answers n ≡ Some zeros → Reads (find_at answers n) (results.Refused status zeros)
-find_refused status zeros ne [] n z c d t = cc
-find_refused status zeros ne (a ∷ answers) n z c d t = go (n == a.0) z (λ h. find_refused status zeros ne answers n h c d t) where
-  go : (b : Bool) → cond b a.1.refused (zeros_in answers n) ≡ Some zeros → (zeros_in answers n ≡ Some zeros → find_at answers n c ≡ Ok (results.Refused status zeros, d)) → cond b (answer_at a.1 c) (find_at answers n c) ≡ Ok (results.Refused status zeros, d)
-  go true h later = ap (λ (o : Option ℕ). by_count a.1.done o c) h ∙ reads_refused status zeros a.1.done ne c d t
+find_refused : (status count : ℕ) → status ≢ 0 → (answers : List (ℕ × Answer)) (n : ℕ) → zeros_in answers n ≡ Some count → Reads (find_at answers n) (results.Refused status count)
+find_refused status count ne [] n z c d t = cc
+find_refused status count ne (a ∷ answers) n z c d t = go (n == a.0) z (λ h. find_refused status count ne answers n h c d t) where
+  go : (b : Bool) → cond b a.1.refused (zeros_in answers n) ≡ Some count → (zeros_in answers n ≡ Some count → find_at answers n c ≡ Ok (results.Refused status count, d)) → cond b (answer_at a.1 c) (find_at answers n c) ≡ Ok (results.Refused status count, d)
+  go true h later = ap (λ (o : Option ℕ). by_count a.1.done o c) h ∙ reads_refused status count a.1.done ne c d t
   go false h later = later h
 
 find_back : (prog proc : ℕ) (y : Results) → AnswerOf prog proc y → Reads (find_at (answers_of prog) proc) y
