@@ -1,12 +1,13 @@
 #!/usr/bin/env python3
-"""Times nfsgw over uploads: in-order WRITE calls, each followed by a turn of the writer.
+"""Times nfsgw over uploads: WRITE calls in windows, each window followed by a turn of the writer for each of its writes.
 
-    bench/uploads.py [--counts N N] [--size BYTES] [--runs N] [--program PATH]
+    bench/uploads.py [--counts N N] [--size BYTES] [--windows N ..] [--runs N] [--program PATH]
 
-It makes one transcript for each count of writes, runs the program on each several times, checks the exit status and
-every line of the output, and prints the times, the ratio of the best ones beside that of the counts (which a run that
-is linear in its transcript comes to), the data per second, and the peak memory. The times include the reading of the
-transcript, which has more than two digits for each byte of data, and the writing of the replies to a file.
+The writes of a window are sent in order, but for its first one, which comes last; in windows of one write all are in
+order. It makes one transcript for each window and count of writes, runs the program on each several times, checks the
+exit status and every line of the output, and prints the times, the ratio of the best ones beside that of the counts
+(which a run that is linear in its transcript comes to), the data per second, and the peak memory. The times include the
+reading of the transcript, which has more than two digits for each byte of data, and the writing of the replies to a file.
 
 Without --program it takes crates/nfsgw/out/nfsgw, which `rt run` leaves there, and runs `rt run` where it is missing.
 """
@@ -60,29 +61,44 @@ def content_of(number, size):
     return hashlib.md5(struct.pack(">Q", number)).digest() * (size // 16) + bytes(size % 16)
 
 
-def make_transcript(path, count, size):
+def windows_of(count, window):
+    """For each window the places of its writes in the file, in the order in which they are sent."""
+    for first in range(0, count, window):
+        places = list(range(first, min(first + window, count)))
+        yield places[1:] + places[:1]
+
+
+def make_transcript(path, count, size, window):
+    xid = 0
     with open(path, "w", encoding="ascii") as out:
         out.write("file data\n")
-        for number in range(count):
-            call = write_call(number + 1, number * size, content_of(number, size))
-            out.write(f"bytes 1 {call.hex()}\nturn 4\n")
+        for places in windows_of(count, window):
+            for place in places:
+                xid += 1
+                call = write_call(xid, place * size, content_of(place, size))
+                out.write(f"bytes 1 {call.hex()}\n")
+            out.write("turn 4\n" * len(places))
         out.write("end\n")
 
 
-def expected_lines(count, size):
-    for number in range(count):
-        yield f"reply 1 {wrote_reply(number + 1, size).hex()}"
+def expected_lines(count, size, window):
+    # A write above what is there is answered when it comes, the first of its window at its turn, after the others.
+    for xid in range(1, count + 1):
+        yield f"reply 1 {wrote_reply(xid, size).hex()}"
     yield "context 4 from 0"
-    for number in range(count):
-        yield f"write {number + 1} {number * size} {size} put -"
+    number = 0
+    for places in windows_of(count, window):
+        for place in places:
+            number += 1
+            yield f"write {number} {place * size} {size} put -"
     reach = count * size
     yield f"ended 4 end reach {reach} stored {reach} synced 0"
 
 
-def check_output(path, count, size):
+def check_output(path, count, size, window):
     with open(path, encoding="ascii") as output:
         lines = (line.rstrip("\n") for line in output)
-        for number, wanted in enumerate(expected_lines(count, size), 1):
+        for number, wanted in enumerate(expected_lines(count, size, window), 1):
             line = next(lines, None)
             if line != wanted:
                 sys.exit(f"uploads: output line {number} is {line!r}, and {wanted!r} is wanted")
@@ -121,9 +137,10 @@ def positive(text):
 
 
 def read_options():
-    parser = argparse.ArgumentParser(description="Times nfsgw over uploads of in-order writes.")
+    parser = argparse.ArgumentParser(description="Times nfsgw over uploads in windows of writes.")
     parser.add_argument("--counts", type=positive, nargs=2, default=[4096, 16384], help="the two numbers of writes")
     parser.add_argument("--size", type=positive, default=4096, help="the bytes of each write, up to 1,048,576")
+    parser.add_argument("--windows", type=positive, nargs="+", default=[1, 16], help="how many writes a window has")
     parser.add_argument("--runs", type=positive, default=3, help="how often each transcript is run")
     parser.add_argument("--program", help="the program to run, if not the one that `rt run` leaves")
     options = parser.parse_args()
@@ -132,17 +149,17 @@ def read_options():
     return options
 
 
-def measure(program, folder, count, size, runs):
+def measure(program, folder, count, size, window, runs):
     """The best time of several runs over one upload. Each run is printed."""
     transcript = os.path.join(folder, "transcript")
     output = os.path.join(folder, "output")
-    make_transcript(transcript, count, size)
+    make_transcript(transcript, count, size, window)
     data = count * size / 2**20
-    print(f"{count} writes of {size} bytes: {data:.1f} MiB in a transcript of {os.path.getsize(transcript) / 2**20:.1f} MiB")
+    print(f"{count} writes of {size} bytes in windows of {window}: {data:.1f} MiB in a transcript of {os.path.getsize(transcript) / 2**20:.1f} MiB")
     times = []
     for _ in range(runs):
         seconds, peak = run_once(program, transcript, output)
-        check_output(output, count, size)
+        check_output(output, count, size, window)
         print(f"  {seconds:8.3f} s  {data / seconds:8.2f} MiB/s  peak {peak / 1024:.1f} MiB", flush=True)
         times.append(seconds)
     return min(times)
@@ -153,9 +170,10 @@ def main():
     program = os.path.abspath(options.program) if options.program else find_program()
     few, many = options.counts
     with tempfile.TemporaryDirectory(prefix="nfsgw-uploads-") as folder:
-        first = measure(program, folder, few, options.size, options.runs)
-        second = measure(program, folder, many, options.size, options.runs)
-    print(f"the best times are as 1 to {second / first:.2f}, and the writes as 1 to {many / few:.2f}")
+        for window in options.windows:
+            first = measure(program, folder, few, options.size, window, options.runs)
+            second = measure(program, folder, many, options.size, window, options.runs)
+            print(f"the best times are as 1 to {second / first:.2f}, and the writes as 1 to {many / few:.2f}")
 
 
 if __name__ == "__main__":

@@ -1,5 +1,5 @@
 -- What the calls of a store do to one object.
-use Rattle.std.specs.Prelude.{◌≡◌, ◌⊎◌, ℕ, ◌≤◌, [], Result, Ok, Err}
+use Rattle.std.specs.Prelude.{◌≡◌, ◌⊎◌, ℕ, ◌≤◌, List, [], take, drop, Result, Ok, Err}
 use Rattle.append_store.specs.State.{ObjectState, Missing, Kept, Lent, durable_of}
 use Rattle.append_store.specs.declared.store.AppendFault.{AppendFault}
 
@@ -21,3 +21,7 @@ pub record Guards (old new : ObjectState) (before now : ℕ) : Type 0 where
 abbrev pub added : {T : Type 0} → Result T AppendFault → ℕ → ℕ
 added (Ok x) n = n
 added (Err e) n = e.kept
+
+-- so many of these bytes, from an offset on
+abbrev pub part_at : List ℕ → ℕ → ℕ → List ℕ
+part_at bytes offset n = take n (drop offset bytes)

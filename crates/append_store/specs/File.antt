@@ -1,5 +1,5 @@
 -- A file in memory, as contracts see it, and what its calls do.
-use Rattle.std.specs.Prelude.{◌≡◌, ◌⊎◌, ◌+◌, ◌-◌, ◌^◌, min, ℕ, List, [], Option, Some, None, is_some, Result, Ok, Err}
+use Rattle.std.specs.Prelude.{◌≡◌, ◌⊎◌, ◌+◌, ◌-◌, ◌^◌, min, ℕ, Bool, true, false, List, [], length, Option, Some, None, is_some, is_err, Result, Ok, Err}
 use Rattle.gw_model.specs.declared.object.ObjectId.{ObjectId}
 use Rattle.gw_outside.specs.Causes.{raised, count_after}
 use Rattle.append_store.specs.Plan.{due_of}
@@ -44,6 +44,25 @@ pub record AppendsAsPlanned {T : Type 0} (old new : FileState) (size : ℕ) (res
   pub calls : new.calls ≡ raised old.calls
   pub planned : new.planned ≡ count_after old.planned (is_some (next_due old))
   pub outcome : AppendOutcome (next_due old) size old.starved new.starved result
+
+-- the file after a counted call that changed nothing else
+abbrev pub counted_call : FileState → Bool → FileState
+counted_call f failed = record f { calls = raised f.calls; planned = count_after f.planned failed }
+
+-- the file after a counted hsync
+abbrev pub synced_file : FileState → Bool → FileState
+synced_file f true = counted_call f true
+synced_file f false = record (counted_call f false) { durable = length f.content }
+
+-- a read fails exactly where it is named, and changes nothing but the counts
+pub record ReadsAsPlanned {T E : Type 0} (old new : FileState) (result : Result T E) : Type 0 where
+  pub failed : is_err result ≡ is_some (next_due old)
+  pub counted : new ≡ counted_call old (is_err result)
+
+-- an hsync fails exactly where it is named, and changes nothing but the counts then
+pub record SyncsAsPlanned {T E : Type 0} (old new : FileState) (result : Result T E) : Type 0 where
+  pub failed : is_err result ≡ is_some (next_due old)
+  pub counted : new ≡ synced_file old (is_err result)
 
 -- a call was counted, with its planned failure
 pub record IsDue (old new : MemFile) (kept : Option ℕ) : Type 0 where

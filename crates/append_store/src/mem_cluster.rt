@@ -18,7 +18,7 @@ use std::alloc::{AllocError, Global};
 use std::collections::BTreeMap;
 
 /// A store in memory. The calls that are planned to fail do so: of each object `create`,
-/// `take_file` and the file's `append` are counted, from 1. A `create` of an object that is out
+/// `take_file` and the file's `append`, `hsync` and `read_at` are counted, from 1. A `create` of an object that is out
 /// isn't counted, and neither is one that finds no memory. A foreign file is let go.
 #[derive(Drop)]
 pub struct MemCluster {

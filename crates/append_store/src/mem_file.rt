@@ -1,8 +1,9 @@
 // A file in memory, which fails at the calls that it is told to fail at.
-ghost use Rattle.std.specs.Prelude.{◌≡◌, ◌≤◌, [], length};
+ghost use Rattle.std.specs.Prelude.{◌≡◌, ◌≤◌, ◌++◌, ◌-◌, [], length, min, take, drop};
+ghost use Rattle.append_store.specs.Calls.{part_at};
 ghost use Rattle.append_store.specs.Plan.{due_of};
 
-use crate::{AppendFault, AppendFile};
+use crate::{AppendFault, AppendFile, StoreFault};
 use gw_model::ObjectId;
 use std::alloc::Global;
 
@@ -18,7 +19,8 @@ pub struct Planned {
 }
 
 /// A file in memory. The calls of its object that are planned to fail do so: `create`,
-/// `take_file` and `append` are counted, from 1, and the numbers go on from one taking to the next.
+/// `take_file`, `append`, `hsync` and `read_at` are counted, from 1, and the numbers go on from one
+/// taking to the next.
 #[derive(Drop)]
 pub struct MemFile {
     object: ObjectId,
@@ -32,10 +34,10 @@ pub struct MemFile {
 }
 
 impl AppendFile for MemFile {
-    ghost use Rattle.std.specs.Prelude.{◌++◌, take, IfErr};
+    ghost use Rattle.std.specs.Prelude.{IfOk, IfErr, OnOk};
     ghost use Rattle.gw_outside.specs.Causes.{HasCause};
     ghost use Rattle.append_store.specs.Calls.{added};
-    ghost use Rattle.append_store.specs.File.{AppendsAsPlanned, file_count, shown};
+    ghost use Rattle.append_store.specs.File.{AppendsAsPlanned, ReadsAsPlanned, SyncsAsPlanned, file_count, shown};
 
     ghost tells = { Unit {0} };
 
@@ -73,6 +75,36 @@ impl AppendFile for MemFile {
         Ok(())
     }
 
+    fn hsync(&mut self) -> Result<(), StoreFault>
+        ensures done { OnOk result ((shown self.new).durable ≡ length (shown self.new).content) }
+        ensures content { (shown self.new).content ≡ (shown self.old).content }
+        ensures durable { (shown self.old).durable ≤ (shown self.new).durable }
+        ensures same { (shown self.new).object ≡ (shown self.old).object }
+        ensures cause { HasCause (file_count (shown self.old)) (file_count (shown self.new)) result }
+        ensures planned { SyncsAsPlanned (shown self.old) (shown self.new) result }
+    {
+        if self.due().is_some() {
+            return Err(StoreFault);
+        }
+        self.durable = self.bytes.len();
+        Ok(())
+    }
+
+    fn read_at(&mut self, offset: u64, out: &mut [u8]) -> Result<usize, StoreFault>
+        ensures length { IfOk result (λ n. n ≡ min (length out.old) (length (shown self.old).content - offset)) }
+        ensures bytes { IfOk result (λ n. out.new ≡ part_at (shown self.old).content offset n ++ drop n out.old) }
+        ensures content { (shown self.new).content ≡ (shown self.old).content }
+        ensures durable { (shown self.new).durable ≡ (shown self.old).durable }
+        ensures same { (shown self.new).object ≡ (shown self.old).object }
+        ensures cause { HasCause (file_count (shown self.old)) (file_count (shown self.new)) result }
+        ensures planned { ReadsAsPlanned (shown self.old) (shown self.new) result }
+    {
+        if self.due().is_some() {
+            return Err(StoreFault);
+        }
+        Ok(copy_part(&self.bytes, offset, out))
+    }
+
     fn len(&self) -> u64 {
         self.bytes.len() as u64
     }
@@ -93,6 +125,19 @@ fn first_due(plan: &[Planned], call: u64) -> Option<u64>
         }
     }
     None
+}
+
+// Copies what lies from an offset on into the front of a slice, as far as there is room.
+fn copy_part(bytes: &[u8], offset: u64, out: &mut [u8]) -> usize
+    ensures many { result ≡ min (length out.old) (length bytes.now - offset) }
+    ensures copied { out.new ≡ part_at bytes.now offset result ++ drop result out.old }
+{
+    let start = bytes.len().min(offset as usize);
+    let (_, rest) = bytes.split_at(start);
+    let count = rest.len().min(out.len());
+    let (part, _) = rest.split_at(count);
+    out[..count].copy_from_slice(part);
+    count
 }
 
 impl MemFile {

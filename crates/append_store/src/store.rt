@@ -1,9 +1,9 @@
 // An append-only file, and a store of such files. What they hold is told by some and not by others.
-ghost use Rattle.std.specs.Prelude.{◌≡◌, ◌≢◌, ◌⊎◌, ◌++◌, ◌<◌, ◌≤◌, List, ℕ, length, take, IfOk, IfErr, OnOk, OnErr, IsErrOf};
+ghost use Rattle.std.specs.Prelude.{◌≡◌, ◌≢◌, ◌⊎◌, ◌++◌, ◌-◌, ◌<◌, ◌≤◌, List, ℕ, length, min, take, drop, IfOk, IfErr, OnOk, OnErr, IsErrOf};
 ghost use Rattle.gw_outside.specs.Causes.{HasCause, Rose, Carries};
 ghost use Rattle.gw_model.specs.declared.object.ObjectId.{ObjectId};
 ghost use Rattle.append_store.specs.State.{ObjectState, Missing, Kept, Lent, IsThere};
-ghost use Rattle.append_store.specs.Calls.{Creates, MayCreate, Guards, added};
+ghost use Rattle.append_store.specs.Calls.{Creates, MayCreate, Guards, added, part_at};
 
 use gw_model::ObjectId;
 
@@ -50,6 +50,25 @@ pub trait AppendFile: Drop {
         ensures kept { IfErr result (λ e. e.kept ≤ length bytes.now) }
         ensures content { tells → content self.new ≡ content self.old ++ take (added result (length bytes.now)) bytes.now }
         ensures durable { tells → durable self.old ≤ durable self.new }
+        ensures same { mark self.new ≡ mark self.old }
+        ensures cause { HasCause (count self.old) (count self.new) result };
+
+    /// Makes the whole file durable. A call that failed may have made a part of it durable.
+    fn hsync(&mut self) -> Result<(), StoreFault>
+        ensures done { OnOk result (tells → durable self.new ≡ length (content self.new)) }
+        ensures content { tells → content self.new ≡ content self.old }
+        ensures durable { tells → durable self.old ≤ durable self.new }
+        ensures same { mark self.new ≡ mark self.old }
+        ensures cause { HasCause (count self.old) (count self.new) result };
+
+    /// Copies what lies from `offset` on into the front of `out`, as far as there is room, and gives
+    /// how many bytes that were. The rest of `out` stays. A call that failed may have written any
+    /// bytes into `out`.
+    fn read_at(&mut self, offset: u64, out: &mut [u8]) -> Result<usize, StoreFault>
+        ensures length { IfOk result (λ n. n ≡ min (length out.old) (length (content self.old) - offset)) }
+        ensures bytes { IfOk result (λ n. tells → out.new ≡ part_at (content self.old) offset n ++ drop n out.old) }
+        ensures content { tells → content self.new ≡ content self.old }
+        ensures durable { tells → durable self.new ≡ durable self.old }
         ensures same { mark self.new ≡ mark self.old }
         ensures cause { HasCause (count self.old) (count self.new) result };
 

@@ -81,3 +81,24 @@ fn fails_a_planned_create_and_a_planned_taking(rt: HostRuntime) -> Result<(), Fa
     assert_eq!(rt; cluster.faults(), 1);
     Ok(())
 }
+
+// Call 3 is the append.
+#[test]
+fn reads_and_syncs(rt: HostRuntime) -> Result<(), Fail> {
+    let alloc = rt.alloc();
+    let mut cluster = MemCluster::new(alloc, vec![in alloc; fails_at(4), fails_at(6)]?);
+    let mut file = taken_anew(&mut cluster)?;
+    assert_eq!(rt; file.append(b"abcde"), Ok(()));
+    assert_eq!(rt; file.hsync(), Err(StoreFault));
+    assert_eq!(rt; file.hsync(), Ok(()));
+    let mut out = *b"----";
+    assert_eq!(rt; file.read_at(1, &mut out), Err(StoreFault));
+    assert_eq!(rt; file.read_at(1, &mut out), Ok(4));
+    assert_eq!(rt; out.as_slice(), b"bcde".as_slice());
+    assert_eq!(rt; file.read_at(4, &mut out), Ok(1));
+    assert_eq!(rt; out.as_slice(), b"ecde".as_slice());
+    assert_eq!(rt; file.read_at(u64::MAX, &mut out), Ok(0));
+    assert_eq!(rt; out.as_slice(), b"ecde".as_slice());
+    assert_eq!(rt; file.faults(), 2);
+    Ok(())
+}

@@ -10,5 +10,6 @@ pub mod Covering
 pub mod Putting
 pub mod Keeping
 pub mod Storing
+pub mod Growing
 pub mod Cases
 pub mod Rows

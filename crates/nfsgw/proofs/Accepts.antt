@@ -1,187 +1,160 @@
--- WRITE: what the definition and the program make of one.
-use Rattle.std.proofs.Common.{◌≡◌, ℕ, ◌+◌, ◌<◌, ◌≤◌, Bool, true, false, Option, None, Some, List, [], ◌∷◌, ◌++◌, map, length, take, nat_le, refl, sym, ◌∙◌, ap, subst, append_assoc, append-nil, length-append, arith}
-use Rattle.std.specs.Prelude.{◌^◌, ◌==◌}
-use Rattle.std.proofs.lemmas.Bool.{eqb-true}
-use Rattle.std.proofs.lemmas.Bool.Decides.{nat_tests}
-use Rattle.std.proofs.lemmas.Grind.{flat_map-append}
-use Rattle.std.proofs.lemmas.List.{map-append}
-use Rattle.std.proofs.Math.Seq.{take-append_seam}
-use Rattle.transcript.specs.Script.{max_lines}
-use Rattle.gw_model.specs.Order.{Accepted, fold, reach}
+-- WRITE: what the definition leaves of a file, and what the program keeps of that.
+use Rattle.std.proofs.Common.{◌≡◌, ℕ, ◌+◌, ◌≤◌, Bool, true, false, Option, None, Some, List, [], ◌++◌, length, take, nat_le, refl, sym, ◌∙◌, ap, subst, append-nil, length-append, arith}
+use Rattle.std.specs.Prelude.{◌^◌}
+use Rattle.std.proofs.lemmas.List.{take-append-le}
+use Rattle.std.proofs.Math.Seq.{take-length}
+use Rattle.gw_model.specs.Order.{fold}
 use Rattle.gw_model.specs.Ahead.{Ahead, Called, Good, Bad, next_call}
-use Rattle.gw_model.specs.File.{content}
-use Rattle.gw_model.specs.Admission.{write, io}
-use Rattle.nfsgw.specs.World.{World, Turned, unlimited, fbig, notsupp, ask, request, do_write, write_in, write_if, opened_for, of_step, in_order_if}
+use Rattle.gw_model.specs.File as model
+use Rattle.gw_model.specs.File.{Answer, File, Side, Writer, side_of, reach_of, content, opened}
+use Rattle.gw_model.specs.Admission.{WriteRequest, io, fbig, write}
+use Rattle.gw_model.specs.Sides as sides
+use Rattle.gw_model.specs.Sides.{side_write}
+use Rattle.gw_model.proofs.Sides.{write_leads as file_write_leads}
+use Rattle.gw_model.proofs.Givings.{open_stands}
+use Rattle.gw_model.proofs.Keeping.{opened_issues, write_issues}
+use Rattle.gw_model.proofs.Storing.{write_same, open_stores, same_stores}
+use Rattle.gw_model.proofs.Growing.{write_grows, line_reaches}
+use Rattle.nfsgw.specs.World.{World, send, unlimited, request, answer, of_step, opened_for, write_in, write_if, do_write, body_in, body_of}
 use Rattle.nfsgw.specs.Steps as steps
-use Rattle.nfsgw.specs.Steps.{Context}
+use Rattle.nfsgw.specs.Steps.{Context, State, fresh, says, refuses, placed, taken_by}
 use Rattle.nfsgw.specs.declared.call.WriteCall.{WriteCall}
-use Rattle.nfsgw.specs.declared.open_file.Range.{Range}
-use Rattle.nfsgw.specs.declared.open_file.HeldWrite.{HeldWrite}
-use Rattle.nfsgw.proofs.Book.{Book, Pending, asked_of, held_of, range_of, file_of, context_of, world_of, state_of, AreRows, Rise, Follow, NoneEmpty, bytes_of, Sound, AllSound, IsPlain, Leads}
-use Rattle.nfsgw.proofs.Plain.{not_refused, plain_next}
-use Rattle.nfsgw.proofs.Replies.{refused_leads}
-use Rattle.nfsgw.proofs.Taking.{with_write, write_at, request_at, write_is, fold_new, none_hangs_new}
+use Rattle.nfsgw.proofs.Plain.{IsPlain, not_refused, plain_next}
+use Rattle.nfsgw.proofs.Keeps.{context_of, kept_of, AreWithin, SendsAll, Sound, none_struck, stands, OpenSound, open_later, IsGoing, Leads}
+use Rattle.nfsgw.proofs.Sends.{Sends, side_sends, in_memory, within_end}
 
--- one more, at the end
+-- A step of the file is what the program says.
+pub file_leads : (before : List ℕ) (n : ℕ) (w : World) (step : model.Step) (c : Context) (answers : List Answer) (put : List ℕ) (t : Ahead)
+    → w.stopped ≡ false → c ≡ context_of step.file → step.answers ≡ answers → t ≡ step.ahead → content step.file ≡ before ++ put → IsPlain step.ahead.left → Sound step.file (n + 1)
+    → Leads before n (of_step w step) (says (Some c) w.desk answers put t)
+file_leads before n w step c answers put t going kept said ahead is plain sound = record {
+  state =
+      ap (λ x. let s : State = record { opened = Some x; desk = (send w.desk answers).desk } in s) kept
+      ∙ ap (λ answers. let s : State = record { opened = Some (context_of step.file); desk = (send w.desk answers).desk } in s) (sym said);
+  stopped = sym going;
+  text = ap (λ answers. (send w.desk answers).text) said;
+  put = is;
+  ahead = ahead;
+  plain = plain;
+  sound = sound;
+}
 
-rows_end : (n : ℕ) (ws : List Accepted) (w : Accepted) → AreRows n ws → w.number ≡ length ws + n → w.let_go ≡ false → w.place ≡ None → AreRows n (ws ++ w ∷ [])
-rows_end n [] w h number stands place = (omega (arith, number), stands, place, tt)
-rows_end n (x ∷ xs) w h number stands place = (h.0, h.1, h.2, rows_end (n + 1) xs w h.3 (omega (arith, number)) stands place)
+-- a write of the open file
+module _ (f : File) (n ticket : ℕ) (call : WriteCall) (t : Ahead) (s : Sound f n) (plain : IsPlain t.left) (few : n + 1 ≤ 2 ^ 65) where
+  abbrev q : WriteRequest
+  q = request ticket call
 
-rise_end : (low n : ℕ) (ps : List Pending) (p : Pending) → Rise low n ps → p.ticket ≡ n + 1 → Rise low (n + 1) (ps ++ p ∷ [])
-rise_end low n [] p h e = (omega (arith, h, e), omega (arith, e))
-rise_end low n (x ∷ xs) p h e = (h.0, rise_end x.ticket n xs p h.1 e)
+  abbrev g : File
+  g = (write unlimited f q t).file
 
-none_empty_end : (ps : List Pending) (p : Pending) → NoneEmpty ps → 0 < length p.content → NoneEmpty (ps ++ p ∷ [])
-none_empty_end [] p h some = (some, tt)
-none_empty_end (x ∷ xs) p h some = (h.0, none_empty_end xs p h.1 some)
+  leads : sides.Leads (write unlimited f q t) (side_write unlimited (side_of f) q) t
+  leads = file_write_leads unlimited (side_of f) f q t (stands f n s) (not_refused t plain) (in_memory unlimited (side_of f) q s.side.pending)
 
-follow_end : (n : ℕ) (ps : List Pending) (p : Pending) → Follow n ps → p.start ≡ n + length (bytes_of ps) → Follow n (ps ++ p ∷ [])
-follow_end n [] p h start = (omega (arith, start), tt)
-follow_end n (x ∷ xs) p h start = (h.0, follow_end (n + length x.content) xs p h.1 (omega (arith, start, length-append x.content (bytes_of xs))))
+  side_is : (side_write unlimited (side_of f) q).side ≡ side_of g
+  side_is = leads.0.is
 
-bytes_end : (ps : List Pending) (p : Pending) → bytes_of (ps ++ p ∷ []) ≡ bytes_of ps ++ p.content
-bytes_end ps p = flat_map-append (λ x. x.content) ps (p ∷ []) ∙ ap (λ xs. bytes_of ps ++ xs) (append-nil p.content)
+  sends : Sends (side_of f) (side_write unlimited (side_of f) q).side n
+  sends = side_sends (side_of f) n s.side few ticket call
 
-length_end : {X : Type 0} (xs : List X) (x : X) → length (xs ++ x ∷ []) ≡ length xs + 1
-length_end xs x = omega (arith, length-append xs (x ∷ []))
+  written_content : content g ≡ content f
+  written_content =
+      let same = write_same unlimited f q t in
+      let more = write_grows unlimited f q t in
+      ap (λ (w : Writer). take w.stored (fold g.base g.accepted)) same.writer ∙ ap (take f.writer.stored) more.1 ∙ take-append-le f.writer.stored (fold f.base f.accepted) more.0 s.below
 
--- what is stored
-pub content_is : (b : Book) (n lines : ℕ) (s : Sound b n lines) → content (file_of b) ≡ s.kept
-content_is b n lines s = ap (λ k. take k (fold b.base b.accepted)) s.stored ∙ ap (take (length s.kept)) s.whole ∙ take-append_seam s.kept s.rest
+  written_below : g.writer.stored ≤ reach_of g
+  written_below =
+      let same = write_same unlimited f q t in
+      let more = write_grows unlimited f q t in
+      let stored = ap (λ (w : Writer). w.stored) same.writer in
+      let longer = ap length more.1 ∙ length-append (fold f.base f.accepted) more.0 in
+      let below = s.below in
+      omega (arith, stored, longer, below)
 
-module _ (n conn xid : ℕ) (bytes : List ℕ) (b : Book) (lines : ℕ) (s : Sound b n lines) (some : 0 < length bytes) where
-  abbrev after : Book
-  after = with_write (n + 1) conn xid bytes b
+  written_within : g.writer.failed ≡ None → AreWithin g.writer.stored g.held.line
+  written_within works =
+      let same = write_same unlimited f q t in
+      let worked = sym (ap (λ (w : Writer). w.failed) same.writer) ∙ works in
+      let end = line_reaches f s.issued s.stored worked s.side.ready (none_struck f n s) in
+      let line : g.held.line ≡ f.held.line ++ sends.more = sym (ap (λ (x : Side). x.held.line) side_is) ∙ sends.line in
+      let all = within_end f.writer.stored f.held.line sends.more (s.within worked) (sends.within _ (omega (arith, end))) in
+      subst (λ m. AreWithin m g.held.line) (sym (ap (λ (w : Writer). w.stored) same.writer)) (subst (AreWithin f.writer.stored) (sym line) all)
 
-  abbrev r : ℕ
-  r = reach b.base b.accepted
+  written_sound : Sound g (n + 1)
+  written_sound =
+      let same = write_same unlimited f q t in
+      record {
+        side = subst (λ x. SendsAll x (n + 1)) side_is sends.sound;
+        issued = write_issues unlimited f q t s.issued;
+        stored = same_stores f g same s.stored;
+        numbered = leads.0.numbered;
+        owed = ap (λ (w : Writer). w.owed) same.writer ∙ s.owed;
+        below = written_below;
+        within = written_within;
+      }
 
-  abbrev w : Accepted
-  w = write_at (length b.accepted + 1) r bytes (n + 1)
+  placed_leads : (w : World) → w.stopped ≡ false → Leads (content f) n (of_step w (write unlimited f q t)) (placed q (context_of f) w.desk t)
+  placed_leads w going =
+      let same = write_same unlimited f q t in
+      let told = side_write unlimited (side_of f) q in
+      let kept : (let c : Context = record (context_of f) { side = told.side } in c) ≡ context_of g
+      = ap (λ x. let c : Context = record (context_of f) { side = x } in c) side_is
+      ∙ ap (λ (base : List ℕ). let c : Context = record { base = length base; side = side_of g; writer = f.writer } in c) (sym same.base)
+      ∙ ap (λ x. let c : Context = record { base = length g.base; side = side_of g; writer = x } in c) (sym same.writer) in
+      file_leads (content f) n w (write unlimited f q t) (record (context_of f) { side = told.side }) told.answers [] t going kept leads.1 (sym leads.3) (written_content ∙ sym (append-nil (content f))) (subst (λ (u : Ahead). IsPlain u.left) (sym leads.3) plain) written_sound
 
-  abbrev p : Pending
-  p = record { number = length b.accepted + 1; start = r; ticket = n + 1; conn = conn; xid = xid; content = bytes }
+-- the file is opened, and nothing is accepted yet
 
-  longer : fold b.base (b.accepted ++ w ∷ []) ≡ fold b.base b.accepted ++ bytes
-  longer = fold_new b.base b.accepted bytes (n + 1) s.none_hangs
+opened_sound : (body : List ℕ) (n : ℕ) → Sound (opened body None 0) n
+opened_sound body n = record {
+  side = record { ready = refl; waiting = refl; live = refl; jobs = tt; pending = tt; few = omega arith };
+  issued = opened_issues body None 0;
+  stored = open_stores body None 0;
+  numbered = tt;
+  owed = refl;
+  below = let len = ap length (append-nil body) in omega (arith, len);
+  within = λ works. tt;
+}
 
-  reach_is : r ≡ length s.kept + length s.rest
-  reach_is = ap length s.whole ∙ length-append s.kept s.rest
+opened_content : (body : List ℕ) → content (opened body None 0) ≡ body
+opened_content body = ap (take (length body)) (append-nil body) ∙ take-length body
 
-  sound_write : Sound after (n + 1) (lines + 1)
-  sound_write = record {
-    rows = rows_end 1 b.accepted w s.rows refl refl refl;
-    none_hangs = none_hangs_new b.base b.accepted bytes (n + 1) s.none_hangs;
-    tickets = rise_end 0 n b.pending p s.tickets refl;
-    some = none_empty_end b.pending p s.some some;
-    few = omega (arith, s.few, length_end b.accepted w);
-    few_wait = omega (arith, s.few_wait, length_end b.pending p);
-    kept = s.kept;
-    rest = s.rest ++ bytes;
-    whole = longer ∙ ap (λ xs. xs ++ bytes) s.whole ∙ append_assoc s.kept s.rest bytes;
-    stored = s.stored;
-    follow = λ working.
-        let f = s.follow working in
-        (follow_end (length s.kept) b.pending p f.0 (reach_is ∙ ap (λ xs. length s.kept + length xs) f.1), ap (λ xs. xs ++ bytes) f.1 ∙ sym (bytes_end b.pending p));
+opened_kept : (body : List ℕ) → context_of (opened body None 0) ≡ fresh (length body)
+opened_kept body = ap (λ x. let c : Context = record (fresh (length body)) { side = x } in c) (sym (open_stands body None 0).is)
+
+module _ (w : World) (n : ℕ) (is : IsGoing w n) (t : Ahead) (plain : IsPlain t.left) where
+  -- A WRITE that is refused at once leaves what was there.
+  refused_leads : (ticket status : ℕ) → Leads (body_of w) n (answer w ticket status t) (refuses (kept_of w.opened) w.desk ticket status t)
+  refused_leads ticket status = record {
+    state = refl;
+    stopped = sym is.going;
+    text = refl;
+    put = sym (append-nil (body_of w));
+    ahead = refl;
+    plain = plain;
+    sound = open_later w.opened n is.sound;
   }
 
-  context_after : Some (steps.accept conn (record { xid = xid; offset = r; content = bytes }) (context_of b)) ≡ state_of (Some after)
-  context_after =
-      let c : ℕ → List Range → List HeldWrite → Option Context = λ to rs hs. Some (record (context_of b) { reach = to; ranges = rs; held = hs }) in
-      let to : r + length bytes ≡ reach b.base (b.accepted ++ w ∷ []) = sym (ap length longer ∙ length-append (fold b.base b.accepted) bytes) in
-      ap (λ k. c k (map range_of b.accepted ++ range_of w ∷ []) (map held_of b.pending ++ held_of p ∷ [])) to
-      ∙ ap (λ rs. c (reach b.base (b.accepted ++ w ∷ [])) rs (map held_of b.pending ++ held_of p ∷ [])) (sym (map-append range_of b.accepted (w ∷ [])))
-      ∙ ap (λ hs. c (reach b.base (b.accepted ++ w ∷ [])) (map range_of (b.accepted ++ w ∷ [])) hs) (sym (map-append held_of b.pending (p ∷ [])))
-
-  -- at the end of the file
-  pub accepted_leads : (body : List ℕ) (t : Ahead) → IsPlain t.left → lines + 1 ≤ max_lines → length bytes < 2 ^ 63
-      → Leads body (Some b) lines (of_step (ask conn xid (world_of body (Some b) n false)) (write unlimited (file_of b) (request_at r bytes (n + 1)) t)) (steps.says (Some (steps.accept conn (record { xid = xid; offset = r; content = bytes }) (context_of b))) [] t)
-  unfolding sound_write
-  accepted_leads body t plain few short =
-      let small : 2 ^ 24 + 1 ≤ 2 ^ 64 = omega arith in
-      let is = write_is (n + 1) conn xid bytes b t (not_refused t plain) s.none_hangs (omega (arith, s.few_wait, few)) (omega (arith, s.few, few)) some short in
-      let step = steps.says (Some (steps.accept conn (record { xid = xid; offset = r; content = bytes }) (context_of b))) [] t in
-      subst (λ x. Leads body (Some b) lines (of_step (ask conn xid (world_of body (Some b) n false)) x) step) (sym is) (record {
-        next = Some after;
-        issued = n + 1;
-        world = ap (λ qs. let v : World = record (world_of body (Some after) (n + 1) false) { waiting = qs } in v) (sym (map-append asked_of b.pending (p ∷ [])));
-        state = context_after;
-        text = refl;
-        put = content_is after (n + 1) (lines + 1) sound_write ∙ sym (content_is b n lines s) ∙ sym (append-nil _);
-        ahead = refl;
-        plain = plain;
-        sound = sound_write;
-      })
-
-module _ (body : List ℕ) (n conn : ℕ) (call : WriteCall) (lines : ℕ) (some : 0 < length call.content) (few : lines + 1 ≤ max_lines) (short : length call.content < 2 ^ 63) where
-  -- a write of the open file
-  placed_leads : (b : Book) (t : Ahead) → Sound b n lines → IsPlain t.left
-      → Leads body (Some b) lines (write_in (Some (file_of b)) (ask conn call.xid (world_of body (Some b) n false)) (request (n + 1) call) t) (steps.placed conn call (context_of b) t)
-  placed_leads b t s plain = go (call.offset == reach b.base b.accepted) refl
+module _ (w : World) (n : ℕ) (is : IsGoing w n) (ticket : ℕ) (call : WriteCall) (few : n + 1 ≤ 2 ^ 65) (t : Ahead) (plain : IsPlain t.left) where
+  written_in : (o : Option File) → w.opened ≡ o → OpenSound o n → Leads (body_in w.body o) n (write_in o w (request ticket call) t) (steps.write_in (kept_of o) (length (body_in w.body o)) (request ticket call) w.desk t)
+  written_in (Some f) e sound = placed_leads f n ticket call t sound plain few w is.going
+  written_in None e sound = go (next_call t).called
     where
-      at : ℕ → Type 0
-      at o = Leads body (Some b) lines (of_step (ask conn call.xid (world_of body (Some b) n false)) (write unlimited (file_of b) (request_at o call.content (n + 1)) t)) (steps.says (Some (steps.accept conn (record { xid = call.xid; offset = o; content = call.content }) (context_of b))) [] t)
+      later : Ahead
+      later = (next_call t).ahead
 
-      go : (test : Bool) → (call.offset == reach b.base b.accepted) ≡ test
-          → Leads body (Some b) lines (of_step (ask conn call.xid (world_of body (Some b) n false)) (in_order_if test (request (n + 1) call) (file_of b) t)) (steps.placed_if test conn call (context_of b) t)
-      go true e = subst at (sym (eqb-true call.offset (reach b.base b.accepted) e)) (accepted_leads n conn call.xid call.content b lines s some body t plain few short)
-      go false e = refused_leads n conn call.xid body (Some b) lines notsupp t s plain
-
-  -- the file is opened, and nothing is accepted yet
-  abbrev fresh_book : Book
-  fresh_book = record { base = body; accepted = []; done = []; pending = []; changed = None; stored = length body; failed = None }
-
-  fresh_sound : Sound fresh_book n lines
-  fresh_sound = record {
-    rows = tt;
-    none_hangs = refl;
-    tickets = omega arith;
-    some = tt;
-    few = omega arith;
-    few_wait = omega arith;
-    kept = body;
-    rest = [];
-    whole = refl;
-    stored = refl;
-    follow = λ e. (tt, refl);
-  }
-
-  from_none : (turned : Turned) (step : steps.Step) → Leads body (Some fresh_book) lines turned step → Leads body None lines turned step
-  unfolding fresh_sound
-  from_none turned step h = record {
-    next = h.next;
-    issued = h.issued;
-    world = h.world;
-    state = h.state;
-    text = h.text;
-    put = h.put ∙ ap (λ xs. xs ++ step.put) (content_is fresh_book n lines fresh_sound);
-    ahead = h.ahead;
-    plain = h.plain;
-    sound = h.sound;
-  }
-
-  write_in_leads : (o : Option Book) (t : Ahead) → AllSound o n lines → IsPlain t.left
-      → Leads body o lines (write_in (world_of body o n false).opened (ask conn call.xid (world_of body o n false)) (request (n + 1) call) t) (steps.write_in (state_of o) (length body) conn call t)
-  write_in_leads (Some b) t s plain = placed_leads b t s plain
-  write_in_leads None t s plain = go (next_call t).called
-    where
-      go : (c : Called) → Leads body None lines (opened_for c (ask conn call.xid (world_of body None n false)) (request (n + 1) call) (next_call t).ahead) (steps.taken_by c (length body) conn call (next_call t).ahead)
-      go (Bad kept) = refused_leads n conn call.xid body None lines io (next_call t).ahead tt (plain_next t plain)
+      go : (c : Called) → Leads w.body n (opened_for c w (request ticket call) later) (taken_by c (length w.body) (request ticket call) w.desk later)
+      go (Bad kept) = subst (λ o. Leads (body_in w.body o) n (answer w ticket io later) (refuses (kept_of o) w.desk ticket io later)) e (refused_leads w n is later (plain_next t plain) ticket io)
       go Good =
-          let is : reach body [] ≡ length body = ap length (append-nil body) in
-          let turned = opened_for Good (ask conn call.xid (world_of body None n false)) (request (n + 1) call) (next_call t).ahead in
-          let placed = placed_leads fresh_book (next_call t).ahead fresh_sound (plain_next t plain) in
-          subst (λ k. Leads body None lines turned (steps.placed conn call (record (steps.fresh (length body)) { reach = k }) (next_call t).ahead)) is (from_none turned (steps.placed conn call (context_of fresh_book) (next_call t).ahead) placed)
+          let f = opened w.body None 0 in
+          let turned = of_step w (write unlimited f (request ticket call) later) in
+          let here = placed_leads f n ticket call later (opened_sound w.body n) (plain_next t plain) few w is.going in
+          subst (λ c. Leads w.body n turned (placed (request ticket call) c w.desk later)) (opened_kept w.body) (subst (λ body. Leads body n turned (placed (request ticket call) (context_of f) w.desk later)) (opened_content w.body) here)
 
--- A WRITE leads to one book.
-pub write_leads : (body : List ℕ) (o : Option Book) (n conn : ℕ) (call : WriteCall) (lines : ℕ) (t : Ahead) → 0 < length call.content → lines + 1 ≤ max_lines → AllSound o n lines → IsPlain t.left
-    → Leads body o lines (do_write (ask conn call.xid (world_of body o n false)) (request (n + 1) call) t) (steps.write_if (nat_le (2 ^ 63) (call.offset + length call.content)) (state_of o) (length body) conn call t)
-write_leads body o n conn call lines t some few s plain = go (nat_le (2 ^ 63) (call.offset + length call.content)) refl
-  where
-    go : (test : Bool) → nat_le (2 ^ 63) (call.offset + length call.content) ≡ test
-        → Leads body o lines (write_if test (ask conn call.xid (world_of body o n false)) (request (n + 1) call) t) (steps.write_if test (state_of o) (length body) conn call t)
-    go true e = refused_leads n conn call.xid body o lines fbig t s plain
-    go false e =
-        let short : length call.content < 2 ^ 63 = grind (arith, nat_tests) in
-        write_in_leads body n conn call lines some few short o t s plain
+  -- A WRITE leads to what the program keeps.
+  pub write_leads : Leads (body_of w) n (do_write w (request ticket call) t) (steps.write_of (kept_of w.opened) (length (body_of w)) (request ticket call) w.desk t)
+  write_leads = go (nat_le (2 ^ 63) (call.offset + length call.content))
+    where
+      go : (b : Bool) → Leads (body_of w) n (write_if b w (request ticket call) t) (steps.write_if b (kept_of w.opened) (length (body_of w)) (request ticket call) w.desk t)
+      go true = refused_leads w n is t plain ticket fbig
+      go false = written_in w.opened refl is.sound

@@ -1,18 +1,16 @@
 -- From the end of the lines to the end of the run.
-use Rattle.std.proofs.Common.{◌≡◌, ◌≢◌, ℕ, ◌+◌, ◌-◌, Bool, true, false, List, [], ◌∷◌, ◌++◌, length, take, replicate, Some, None, unwrap_or, refl, sym, ◌∙◌, ap, subst, append_assoc, append-nil, length-append, get_or, ◌⊎◌, inl, inr, arith}
+use Rattle.std.proofs.Common.{◌≡◌, ◌≢◌, ℕ, ◌+◌, Bool, true, false, List, [], ◌∷◌, ◌++◌, length, Some, None, unwrap_or, refl, sym, ◌∙◌, ap, subst, append_assoc, append-nil, get_or, ◌⊎◌, inl, inr, arith}
 use Rattle.std.specs.declared.option.Option.{Option}
 use Rattle.std.specs.Io.KnownBytes.{Consumes, Appends, IsAtEnd}
 use Rattle.std.proofs.KnownBytes.{Appends-trans}
-use Rattle.std.proofs.Math.Seq.{take-length}
-use Rattle.std.proofs.lemmas.List.{length-take, length-replicate}
 use Rattle.gw_outside.specs.Causes.{Rose}
 use Rattle.gw_model.specs.Ahead.{Called}
 use Rattle.transcript.specs.Script.{Stop, AtEnd, AtBad, AtOpen}
 use Rattle.transcript.specs.Writing.{IsPrefix, AppendsPrefix}
-use Rattle.nfsgw.specs.Headline.{Outside, Traffic, Moves, Fails, nothing, script, ahead_of, IsWhole, IsShort, IsRun, IsComplete, Runs}
-use Rattle.nfsgw.specs.Steps.{Context, gone_of, end_history}
-use Rattle.nfsgw.specs.Outside.{Fits, Opens, GivesBack, faults_at}
-use Rattle.nfsgw.specs.Progress.{Closes, IsShortOf, IsEnding, Keeps, Ends, status_by}
+use Rattle.nfsgw.specs.Headline.{Outside, Traffic, Moves, Fails, nothing, script, ahead_of, IsWhole, IsShort, IsRead, IsRun, IsComplete, Runs}
+use Rattle.nfsgw.specs.Steps.{State, initial, gone_of, end_history}
+use Rattle.nfsgw.specs.Outside.{GivesBack, faults_at}
+use Rattle.nfsgw.specs.Progress.{Closes, IsShortOf, IsEnding, Ends, status_by}
 use Rattle.nfsgw.specs.declared.run.Turn.{Turn}
 use Rattle.nfsgw.specs.declared.run.Turn.TheVariants as turn
 use Rattle.nfsgw.specs.declared.status.Status.{Status}
@@ -30,39 +28,9 @@ nothing_left : (left : Option (List ℕ)) → IsAtEnd left → unwrap_or left []
 nothing_left None h = refl
 nothing_left (Some xs) h = h
 
--- the body over which the run is told: what it held, where the store tells, and else some bytes of the length that it had
-
-sized : ℕ → List ℕ → List ℕ
-sized n bytes = take n bytes ++ replicate (n - length bytes) 0
-
-length-sized : (n : ℕ) (bytes : List ℕ) → length (sized n bytes) ≡ n
-unfolding sized
-length-sized n bytes = omega (arith, length-append (take n bytes) (replicate (n - length bytes) 0), length-take n bytes, length-replicate {A = ℕ} (n - length bytes) 0)
-
-sized-same : (n : ℕ) (bytes : List ℕ) → n ≡ length bytes → bytes ≡ sized n bytes
-unfolding sized
-sized-same n bytes e =
-    let none : n - length bytes ≡ 0 = omega (arith, e) in
-    let all : take n bytes ≡ bytes = ap (λ k. take k bytes) e ∙ take-length bytes in
-    rw (none, all) (sym (append-nil bytes))
-
-told_body : Option Context → List ℕ → List ℕ
-told_body None bytes = bytes
-told_body (Some c) bytes = sized c.base bytes
-
-fits_body : (kept : Option Context) (bytes : List ℕ) → Fits (length (told_body kept bytes)) kept
-unfolding told_body
-fits_body None bytes = tt
-fits_body (Some c) bytes = sym (length-sized c.base bytes)
-
-told_as : (kept : Option Context) (bytes put : List ℕ) → Opens (length bytes) None kept put → bytes ≡ told_body kept bytes
-unfolding told_body
-told_as None bytes put o = refl
-told_as (Some c) bytes put o = sized-same c.base bytes o
-
 -- from what the program's steps came to, to what the definition says
 
-whole_is : (body bytes : List ℕ) (stopped : Bool) (s : Traffic) → gone_of (length body) None (script bytes).events (ahead_of s.calls) ≡ record { text = s.written; put = s.put; stopped = stopped; ahead = ahead_of [] } → IsWhole body bytes stopped s
+whole_is : (body bytes : List ℕ) (stopped : Bool) (s : Traffic) → gone_of body initial (script bytes).events (ahead_of s.calls) ≡ record { text = s.written; put = s.put; stopped = stopped; ahead = ahead_of [] } → IsWhole body bytes stopped s
 whole_is body bytes stopped s e =
     let t = output_is body bytes s.calls in record {
       text = t.text ∙ ap (λ x. x.text) e;
@@ -71,10 +39,10 @@ whole_is body bytes stopped s e =
       ahead = t.ahead ∙ ap (λ x. x.ahead) e;
     }
 
-short_is : (body bytes : List ℕ) (kept : Option Context) (s : Traffic) → Fits (length body) kept → IsShortOf bytes kept s → IsShort body bytes s
-short_is body bytes kept s fits g = λ later.
+short_is : (tells : Type 0) (body bytes : List ℕ) (s : Traffic) → tells → IsShortOf tells body bytes s → IsShort body bytes s
+short_is tells body bytes s told g = λ later.
     let t = output_is body bytes (s.calls ++ later) in
-    let f = g (length body) fits later in (
+    let f = g told later in (
       (f.0.0, t.text ∙ f.0.1),
       (f.1.0, t.body ∙ ap (λ x. body ++ x) f.1.1 ∙ sym (append_assoc body s.put f.1.0)),
     )
@@ -85,46 +53,62 @@ short_is body bytes kept s fits g = λ later.
 abbrev more_text : Traffic → List ℕ → Traffic
 more_text s text = record s { written = s.written ++ text }
 
-module _ (kept : Option Context) (body : List ℕ) (fits : Fits (length body) kept) where
-  whole_of : (stop : Stop) (n : ℕ) (bytes : List ℕ) (s : Traffic) → Closes stop n bytes s kept → IsWhole body bytes false (more_text s (end_history kept))
-  whole_of stop n bytes s c = whole_is body bytes false (more_text s (end_history kept))
-      (ap (λ o. gone_of (length body) None (script bytes).events (ahead_of o)) (sym (append-nil s.calls)) ∙ c.gone (length body) fits [] ∙ rw (append-nil s.put) refl)
+module _ (tells : Type 0) (body : List ℕ) (kept : State) where
+  abbrev history : List ℕ
+  history = end_history kept.opened
 
-  bad : (stop : Stop) (n : ℕ) (bytes : List ℕ) (s : Traffic) → stop ≢ AtEnd → Closes stop n bytes s kept → IsRun (status.BadLine (n + 1)) body bytes (more_text s (end_history kept))
-  bad stop n bytes s apart c = (λ e. apart (sym c.stopped ∙ e), ap (λ k. k + 1) (sym c.count), whole_of stop n bytes s c)
+  -- how far the transcript was read, whatever was written of the history
+  read_bad : (stop : Stop) (n : ℕ) (bytes : List ℕ) (s : Traffic) (text : List ℕ) → stop ≢ AtEnd → Closes tells body stop n bytes s kept → IsRead (status.BadLine (n + 1)) bytes (more_text s text)
+  read_bad stop n bytes s text apart c = (λ e. apart (sym c.stopped ∙ e), ap (λ k. k + 1) (sym c.count))
 
-  whole : (is : Turn) (n : ℕ) (s : Traffic) (left : Option (List ℕ)) → is ≢ turn.StoreFault → is ≢ turn.WriteFault → is ≢ turn.NoMemory → IsEnding is n s kept left
-      → IsRun (status_by is n) body (s.taken ++ unwrap_or left []) (more_text s (end_history kept))
-  whole turn.More n s left ns nw nm e = absurd e
-  whole turn.Ended n s left ns nw nm e = let c = e (unwrap_or left []) in (c.stopped, whole_of AtEnd n _ s c)
-  whole turn.Bad n s left ns nw nm e = bad AtBad n _ s bad_is_not_end (e (unwrap_or left []))
-  whole turn.Open n s left ns nw nm e =
-      subst (λ b. IsRun (status.BadLine (n + 1)) body b (more_text s (end_history kept))) (sym (ap (λ x. s.taken ++ x) (nothing_left left e.1) ∙ append-nil s.taken)) (bad AtOpen n s.taken s open_is_not_end e.0)
-  whole turn.ReadFault n s left ns nw nm e = (e.stopped, whole_of AtOpen n s.taken s e)
-  whole turn.StoreFault n s left ns nw nm e = absurd (ns refl)
-  whole turn.WriteFault n s left ns nw nm e = absurd (nw refl)
-  whole turn.NoMemory n s left ns nw nm e = absurd (nm refl)
+  read_is : (is : Turn) (n : ℕ) (s : Traffic) (left : Option (List ℕ)) (text : List ℕ) → IsEnding is tells body n s kept left → IsRead (status_by is n) (s.taken ++ unwrap_or left []) (more_text s text)
+  read_is turn.More n s left text e = absurd e
+  read_is turn.Ended n s left text e = (e (unwrap_or left [])).stopped
+  read_is turn.Bad n s left text e = read_bad AtBad n _ s text bad_is_not_end (e (unwrap_or left []))
+  read_is turn.Open n s left text e =
+      subst (λ b. IsRead (status.BadLine (n + 1)) b (more_text s text)) (sym (ap (λ x. s.taken ++ x) (nothing_left left e.1) ∙ append-nil s.taken)) (read_bad AtOpen n s.taken s text open_is_not_end e.0)
+  read_is turn.ReadFault n s left text e = e.stopped
+  read_is turn.StoreFault n s left text e = tt
+  read_is turn.WriteFault n s left text e = tt
+  read_is turn.NoMemory n s left text e = tt
 
-  short_of : (stop : Stop) (n : ℕ) (s : Traffic) (part : List ℕ) → Closes stop n s.taken s kept → IsPrefix part (end_history kept) → IsShortOf s.taken kept (more_text s part)
-  short_of stop n s part c f = λ base fit later.
-      ((f.0, ap (λ x. x.text) (c.gone base fit later) ∙ ap (λ x. s.written ++ x) f.1 ∙ sym (append_assoc s.written part f.0)), ([], ap (λ x. x.put) (c.gone base fit later)))
+  module _ (told : tells) where
+    whole_of : (stop : Stop) (n : ℕ) (bytes : List ℕ) (s : Traffic) → Closes tells body stop n bytes s kept → IsWhole body bytes false (more_text s history)
+    whole_of stop n bytes s c = whole_is body bytes false (more_text s history)
+        (ap (λ o. gone_of body initial (script bytes).events (ahead_of o)) (sym (append-nil s.calls)) ∙ c.gone told [] ∙ rw (append-nil s.put) refl)
 
-  short_more : (stop : Stop) (n : ℕ) (s : Traffic) (part : List ℕ) → Closes stop n (s.taken ++ []) s kept → IsPrefix part (end_history kept) → IsShortOf s.taken kept (more_text s part)
-  short_more stop n s part c f = short_of stop n s part (subst (λ b. Closes stop n b s kept) (append-nil s.taken) c) f
+    whole : (is : Turn) (n : ℕ) (s : Traffic) (left : Option (List ℕ)) → is ≢ turn.StoreFault → is ≢ turn.WriteFault → is ≢ turn.NoMemory → IsEnding is tells body n s kept left
+        → IsRun (status_by is n) body (s.taken ++ unwrap_or left []) (more_text s history)
+    whole turn.More n s left ns nw nm e = absurd e
+    whole turn.Ended n s left ns nw nm e = whole_of AtEnd n _ s (e (unwrap_or left []))
+    whole turn.Bad n s left ns nw nm e = whole_of AtBad n _ s (e (unwrap_or left []))
+    whole turn.Open n s left ns nw nm e =
+        subst (λ b. IsRun (status.BadLine (n + 1)) body b (more_text s history)) (sym (ap (λ x. s.taken ++ x) (nothing_left left e.1) ∙ append-nil s.taken)) (whole_of AtOpen n s.taken s e.0)
+    whole turn.ReadFault n s left ns nw nm e = whole_of AtOpen n s.taken s e
+    whole turn.StoreFault n s left ns nw nm e = absurd (ns refl)
+    whole turn.WriteFault n s left ns nw nm e = absurd (nw refl)
+    whole turn.NoMemory n s left ns nw nm e = absurd (nm refl)
 
-  short : (is : Turn) (n : ℕ) (s : Traffic) (part : List ℕ) (left : Option (List ℕ)) → is ≢ turn.StoreFault → is ≢ turn.WriteFault → is ≢ turn.NoMemory → IsEnding is n s kept left
-      → IsPrefix part (end_history kept) → IsShort body s.taken (more_text s part)
-  short is n s part left ns nw nm e f = short_is body s.taken kept (more_text s part) fits (go is ns nw nm e)
-    where
-      go : (is : Turn) → is ≢ turn.StoreFault → is ≢ turn.WriteFault → is ≢ turn.NoMemory → IsEnding is n s kept left → IsShortOf s.taken kept (more_text s part)
-      go turn.More ns nw nm e = absurd e
-      go turn.Ended ns nw nm e = short_more AtEnd n s part (e []) f
-      go turn.Bad ns nw nm e = short_more AtBad n s part (e []) f
-      go turn.Open ns nw nm e = short_of AtOpen n s part e.0 f
-      go turn.ReadFault ns nw nm e = short_of AtOpen n s part e f
-      go turn.StoreFault ns nw nm e = absurd (ns refl)
-      go turn.WriteFault ns nw nm e = absurd (nw refl)
-      go turn.NoMemory ns nw nm e = absurd (nm refl)
+    short_of : (stop : Stop) (n : ℕ) (s : Traffic) (part : List ℕ) → Closes tells body stop n s.taken s kept → IsPrefix part history → IsShortOf tells body s.taken (more_text s part)
+    short_of stop n s part c f = λ told later.
+        ((f.0, ap (λ x. x.text) (c.gone told later) ∙ ap (λ x. s.written ++ x) f.1 ∙ sym (append_assoc s.written part f.0)), ([], ap (λ x. x.put) (c.gone told later)))
+
+    short_more : (stop : Stop) (n : ℕ) (s : Traffic) (part : List ℕ) → Closes tells body stop n (s.taken ++ []) s kept → IsPrefix part history → IsShortOf tells body s.taken (more_text s part)
+    short_more stop n s part c f = short_of stop n s part (subst (λ b. Closes tells body stop n b s kept) (append-nil s.taken) c) f
+
+    short : (is : Turn) (n : ℕ) (s : Traffic) (part : List ℕ) (left : Option (List ℕ)) → is ≢ turn.StoreFault → is ≢ turn.WriteFault → is ≢ turn.NoMemory → IsEnding is tells body n s kept left
+        → IsPrefix part history → IsShort body s.taken (more_text s part)
+    short is n s part left ns nw nm e f = short_is tells body s.taken (more_text s part) told (go is ns nw nm e)
+      where
+        go : (is : Turn) → is ≢ turn.StoreFault → is ≢ turn.WriteFault → is ≢ turn.NoMemory → IsEnding is tells body n s kept left → IsShortOf tells body s.taken (more_text s part)
+        go turn.More ns nw nm e = absurd e
+        go turn.Ended ns nw nm e = short_more AtEnd n s part (e []) f
+        go turn.Bad ns nw nm e = short_more AtBad n s part (e []) f
+        go turn.Open ns nw nm e = short_of AtOpen n s part e.0 f
+        go turn.ReadFault ns nw nm e = short_of AtOpen n s part e f
+        go turn.StoreFault ns nw nm e = absurd (ns refl)
+        go turn.WriteFault ns nw nm e = absurd (nw refl)
+        go turn.NoMemory ns nw nm e = absurd (nm refl)
 
 -- the file is given back, and more was written
 
@@ -132,14 +116,11 @@ given_fails : (calls : List Called) (a n : ℕ) (given : Option ℕ) (now : ℕ)
 given_fails calls a n None now f g = omega (arith, f, g)
 given_fails calls a n (Some m) now f g = let c = g.carried in omega (arith, f, c)
 
-module _ (tells : Type 0) (is : Turn) (n : ℕ) (state : Option Context) (left left' held mid : Option (List ℕ)) (body bodied body' : List ℕ) (a m : ℕ) (given : Option ℕ) (now : ℕ)
+module _ (tells : Type 0) (is : Turn) (n : ℕ) (state : State) (left left' held mid : Option (List ℕ)) (body bodied body' : List ℕ) (a m : ℕ) (given : Option ℕ) (now : ℕ)
     (e : Ends tells is n state (record { left = left; held = held; body = body; faults = a }) (record { left = left'; held = mid; body = bodied; faults = faults_at m given }))
     (back : GivesBack m given now) (bytes : tells → body' ≡ bodied) where
   abbrev before : Outside
   before = record { left = left; held = held; body = body; faults = a }
-
-  abbrev over : List ℕ
-  over = told_body e.kept body
 
   moved : (held' : Option (List ℕ)) (text : List ℕ) → Appends mid held' text → Moves tells before (record { left = left'; held = held'; body = body'; faults = now }) (more_text e.traffic text)
   moved held' text w = record {
@@ -157,37 +138,22 @@ module _ (tells : Type 0) (is : Turn) (n : ℕ) (state : Option Context) (left l
     fails = given_fails e.traffic.calls a m given now e.moves.fails back;
   }
 
-  as_kept : is ≢ turn.StoreFault → is ≢ turn.WriteFault → is ≢ turn.NoMemory → state ≡ e.kept
-  as_kept ns nw nm = go is ns nw nm e.keeps e.ending
-    where
-      go : (x : Turn) → x ≢ turn.StoreFault → x ≢ turn.WriteFault → x ≢ turn.NoMemory → Keeps x e.kept state → IsEnding x n e.traffic e.kept left' → state ≡ e.kept
-      go turn.More ns nw nm k g = absurd g
-      go turn.Ended ns nw nm k g = k
-      go turn.Bad ns nw nm k g = k
-      go turn.Open ns nw nm k g = k
-      go turn.ReadFault ns nw nm k g = k
-      go turn.StoreFault ns nw nm k g = absurd (ns refl)
-      go turn.WriteFault ns nw nm k g = absurd (nw refl)
-      go turn.NoMemory ns nw nm k g = absurd (nm refl)
-
-  pub runs_whole : (held' : Option (List ℕ)) → is ≢ turn.StoreFault → is ≢ turn.WriteFault → is ≢ turn.NoMemory → Appends mid held' (end_history state)
+  pub runs_whole : (held' : Option (List ℕ)) → is ≢ turn.StoreFault → is ≢ turn.WriteFault → is ≢ turn.NoMemory → Appends mid held' (end_history state.opened)
       → Runs tells (status_by is n) before (record { left = left'; held = held'; body = body'; faults = now })
   runs_whole held' ns nw nm w = record {
-    traffic = more_text e.traffic (end_history e.kept);
-    moves = moved held' (end_history e.kept) (subst (λ s. Appends mid held' (end_history s)) (as_kept ns nw nm) w);
-    body = over;
-    told = λ told. told_as e.kept body e.traffic.put (e.opens told);
-    run = whole e.kept over (fits_body e.kept body) is n e.traffic left' ns nw nm e.ending;
+    traffic = more_text e.traffic (end_history state.opened);
+    moves = moved held' (end_history state.opened) w;
+    read = read_is tells body state is n e.traffic left' (end_history state.opened) e.ending;
+    run = λ told. whole tells body state told is n e.traffic left' ns nw nm e.ending;
   }
 
-  pub runs_short : (held' : Option (List ℕ)) → is ≢ turn.StoreFault → is ≢ turn.WriteFault → is ≢ turn.NoMemory → AppendsPrefix mid held' (end_history state)
+  pub runs_short : (held' : Option (List ℕ)) → is ≢ turn.StoreFault → is ≢ turn.WriteFault → is ≢ turn.NoMemory → AppendsPrefix mid held' (end_history state.opened)
       → Runs tells status.WriteFault before (record { left = left'; held = held'; body = body'; faults = now })
   runs_short held' ns nw nm w = record {
     traffic = more_text e.traffic w.0;
     moves = moved held' w.0 w.1;
-    body = over;
-    told = λ told. told_as e.kept body e.traffic.put (e.opens told);
-    run = short e.kept over (fits_body e.kept body) is n e.traffic w.0 left' ns nw nm e.ending (subst (λ s. IsPrefix w.0 (end_history s)) (as_kept ns nw nm) w.2);
+    read = tt;
+    run = λ told. short tells body state told is n e.traffic w.0 left' ns nw nm e.ending w.2;
   }
 
   pub runs_unwritten : (held' : Option (List ℕ)) → is ≢ turn.StoreFault → is ≢ turn.WriteFault → is ≢ turn.NoMemory → Appends mid held' []
@@ -195,40 +161,40 @@ module _ (tells : Type 0) (is : Turn) (n : ℕ) (state : Option Context) (left l
   runs_unwritten held' ns nw nm w = record {
     traffic = more_text e.traffic [];
     moves = moved held' [] w;
-    body = over;
-    told = λ told. told_as e.kept body e.traffic.put (e.opens told);
-    run = short e.kept over (fits_body e.kept body) is n e.traffic [] left' ns nw nm e.ending (end_history e.kept, refl);
+    read = tt;
+    run = λ told. short tells body state told is n e.traffic [] left' ns nw nm e.ending (end_history state.opened, refl);
   }
+
+  -- what is to be said of a run that a failure cut off, by how its lines ended
+  abbrev CutRead : Turn → Type 0
+  CutRead x = IsRead (status_by x n) (e.traffic.taken ++ unwrap_or left' []) e.traffic
+
+  abbrev CutRun : Turn → Type 0
+  CutRun x = IsRun (status_by x n) body (e.traffic.taken ++ unwrap_or left' []) e.traffic
+
+  abbrev CutEnding : Turn → Type 0
+  CutEnding x = IsEnding x tells body n e.traffic state left'
 
   pub runs_cut : (is ≡ turn.StoreFault) ⊎ ((is ≡ turn.WriteFault) ⊎ (is ≡ turn.NoMemory)) → Runs tells (status_by is n) before (record { left = left'; held = mid; body = body'; faults = now })
   runs_cut which = record {
     traffic = e.traffic;
     moves = moved_only;
-    body = over;
-    told = λ told. told_as e.kept body e.traffic.put (e.opens told);
-    run = go is which e.ending;
+    read = read_of is which;
+    run = λ told. run_of told is which e.ending;
   }
     where
-      go : (x : Turn) → (x ≡ turn.StoreFault) ⊎ ((x ≡ turn.WriteFault) ⊎ (x ≡ turn.NoMemory)) → IsEnding x n e.traffic e.kept left' → IsRun (status_by x n) over (e.traffic.taken ++ unwrap_or left' []) e.traffic
-      go turn.More which g = absurd g
-      go turn.Ended (inl q) g = cc
-      go turn.Ended (inr (inl q)) g = cc
-      go turn.Ended (inr (inr q)) g = cc
-      go turn.Bad (inl q) g = cc
-      go turn.Bad (inr (inl q)) g = cc
-      go turn.Bad (inr (inr q)) g = cc
-      go turn.Open (inl q) g = cc
-      go turn.Open (inr (inl q)) g = cc
-      go turn.Open (inr (inr q)) g = cc
-      go turn.ReadFault (inl q) g = cc
-      go turn.ReadFault (inr (inl q)) g = cc
-      go turn.ReadFault (inr (inr q)) g = cc
-      go turn.StoreFault which g = whole_is over e.traffic.taken true e.traffic (g (length over) (fits_body e.kept body))
-      go turn.WriteFault which g = short_is over e.traffic.taken e.kept e.traffic (fits_body e.kept body) g
-      go turn.NoMemory which g = short_is over e.traffic.taken e.kept e.traffic (fits_body e.kept body) g
+      read_of : (x : Turn) → (x ≡ turn.StoreFault) ⊎ ((x ≡ turn.WriteFault) ⊎ (x ≡ turn.NoMemory)) → CutRead x
+      read_of x (inl q) = subst CutRead (sym q) tt
+      read_of x (inr (inl q)) = subst CutRead (sym q) tt
+      read_of x (inr (inr q)) = subst CutRead (sym q) tt
+
+      run_of : tells → (x : Turn) → (x ≡ turn.StoreFault) ⊎ ((x ≡ turn.WriteFault) ⊎ (x ≡ turn.NoMemory)) → CutEnding x → CutRun x
+      run_of told x (inl q) g = subst CutRun (sym q) (whole_is body e.traffic.taken true e.traffic (subst CutEnding q g told))
+      run_of told x (inr (inl q)) g = subst CutRun (sym q) (short_is tells body e.traffic.taken e.traffic told (subst CutEnding q g))
+      run_of told x (inr (inr q)) g = subst CutRun (sym q) (short_is tells body e.traffic.taken e.traffic told (subst CutEnding q g))
 
 pub runs_usage : (tells : Type 0) (o : Outside) → Runs tells status.Usage o o
-runs_usage tells o = record { traffic = nothing; moves = Moves-nil tells o; body = o.body; told = λ told. refl; run = refl }
+runs_usage tells o = record { traffic = nothing; moves = Moves-nil tells o; read = refl; run = λ told. tt }
 
 pub status_read : (is : Turn) (n : ℕ) → status_by is n ≡ status.ReadFault → is ≡ turn.ReadFault
 status_read turn.More n e = cc
@@ -283,9 +249,9 @@ only_one (x ∷ y ∷ ys) d h = absurd (omega arith)
 -- a run in which nothing failed
 pub completes : (tells : Type 0) (result : Status) (before after : Outside) → Runs tells result before after → result ≢ status.Usage → (result ≡ status.ReadFault → ⊥) → (result ≡ status.WriteFault → ⊥) → (result ≡ status.StoreFault → ⊥)
     → IsComplete before.left result
-completes tells result before after r usage read write store = go before.left after.left r.traffic.taken r.moves.reads result r.run usage read write store
+completes tells result before after r usage read write store = go before.left after.left r.traffic.taken r.moves.reads result r.read usage read write store
   where
-    go : (left left' : Option (List ℕ)) (taken : List ℕ) → Consumes left left' taken → (x : Status) → IsRun x r.body (taken ++ unwrap_or left' []) r.traffic → x ≢ status.Usage → (x ≡ status.ReadFault → ⊥) → (x ≡ status.WriteFault → ⊥) → (x ≡ status.StoreFault → ⊥) → IsComplete left x
+    go : (left left' : Option (List ℕ)) (taken : List ℕ) → Consumes left left' taken → (x : Status) → IsRead x (taken ++ unwrap_or left' []) r.traffic → x ≢ status.Usage → (x ≡ status.ReadFault → ⊥) → (x ≡ status.WriteFault → ⊥) → (x ≡ status.StoreFault → ⊥) → IsComplete left x
     go None left' taken c status.Done run u a b d = tt
     go None left' taken c status.NoMemory run u a b d = tt
     go None left' taken c (status.BadLine n) run u a b d = tt

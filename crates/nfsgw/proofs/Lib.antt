@@ -1,19 +1,24 @@
-mod Rows
-pub mod Packing
+mod CallParts
+mod CallLaw
+mod NameLaw
+mod GrammarLaw
+pub mod Waits
+pub mod Meeting
+pub mod Working
+pub mod StepWrites
+pub mod Lines
+pub mod Told
 pub mod StepCases
 pub mod Runs
 pub mod Ready
 pub mod Finishes
-pub mod Book
-pub mod Plain
-pub mod Replies
-pub mod Taking
-pub mod Accepts
-pub mod Turns
-pub mod Ends
-pub mod Bridge
 pub mod Scripts
-pub mod CallParts
-pub mod CallLaw
-pub mod NameLaw
-pub mod GrammarLaw
+pub mod Entering
+mod Plain
+mod Keeps
+mod Sends
+mod Accepts
+mod Turns
+mod Ends
+mod Bridge
+mod Rows

@@ -2,7 +2,14 @@
 use Rattle.std.proofs.Common.{◌≡◌, false, List, [], ◌∷◌, map, refl}
 use Rattle.gw_model.specs.Ahead.{Ahead, Outcome, Done, Failed, Listed, NoMemory, Called, Good, Bad, refused, next_call}
 use Rattle.nfsgw.specs.Headline.{outcome_of}
-use Rattle.nfsgw.proofs.Book.{IsPlain}
+
+-- only calls that were done or failed
+abbrev pub IsPlain : List Outcome → Type 0
+IsPlain [] = Unit {0}
+IsPlain (Done ∷ os) = IsPlain os
+IsPlain (Failed kept ∷ os) = IsPlain os
+IsPlain (Listed objects ∷ os) = ⊥
+IsPlain (NoMemory event request ∷ os) = ⊥
 
 abbrev of_left : List Outcome → Ahead → Ahead
 of_left os t = record t { left = os }

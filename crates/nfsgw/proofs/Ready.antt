@@ -15,7 +15,7 @@ use Rattle.nfsgw.specs.declared.grammar.Event.{Event}
 use Rattle.nfsgw.specs.declared.grammar.Event.TheVariants.{MakeFile, Write, Turn}
 use Rattle.nfsgw.specs.declared.grammar.Line.{Line}
 use Rattle.nfsgw.specs.declared.grammar.Line.TheVariants.{Go, End}
-use Rattle.nfsgw.proofs.Scripts.{SmallLine, line_small, by_test}
+use Rattle.nfsgw.proofs.Lines.{SmallLine, line_small, by_test}
 
 there_not_away : (s : ObjectState) → IsThere s → IsAway s → ⊥
 there_not_away Missing t a = t

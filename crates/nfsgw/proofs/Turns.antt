@@ -1,155 +1,194 @@
--- A turn: what the definition and the program make of one.
-use Rattle.std.proofs.Common.{◌≡◌, ℕ, ◌+◌, max, true, false, Option, None, Some, List, [], ◌∷◌, ◌++◌, map, length, take, drop, refl, sym, ◌∙◌, ap, subst, append_assoc, append-nil, length-append, arith}
+-- A turn: what the definition leaves of a file, and what the program keeps of that.
+use Rattle.std.proofs.Common.{◌≡◌, ℕ, ◌+◌, ◌-◌, ◌≤◌, max, Bool, true, false, Option, None, Some, List, [], ◌∷◌, ◌++◌, length, take, drop, nat_lt, refl, sym, ◌∙◌, ap, subst, append-nil, arith}
 use Rattle.std.specs.Prelude.{min}
-use Rattle.std.proofs.lemmas.List.{length-take, take-append-drop}
+use Rattle.std.proofs.lemmas.List.{take_min, take-take, drop-take}
+use Rattle.std.proofs.Math.Seq.{take-nil, take-length}
+use Rattle.gw_model.specs.declared.Stable.{Stable}
 use Rattle.gw_model.specs.declared.Stable.TheVariants.{Unstable}
-use Rattle.gw_model.specs.Ahead.{Ahead, Outcome, Done, Failed, Listed, NoMemory, Good, Bad}
-use Rattle.gw_model.specs.File.{Body, Wrote, NotWritten, Failure, content}
-use Rattle.gw_model.specs.Writer.{turn, do_job}
-use Rattle.nfsgw.specs.Text.{reply_line}
-use Rattle.nfsgw.specs.World.{World, reply_bytes, still, of_step, turn_in}
-use Rattle.nfsgw.specs.Steps as steps
-use Rattle.nfsgw.proofs.Book.{Book, Pending, job_of, held_of, asked_of, file_of, context_of, world_of, state_of, Follow, bytes_of, Sound, AllSound, IsPlain, Leads}
-use Rattle.nfsgw.proofs.Replies.{rise_from, first_text, first_gone, all_later}
-use Rattle.nfsgw.proofs.Accepts.{content_is}
+use Rattle.gw_model.specs.Order.{joined, fold}
+use Rattle.gw_model.specs.Ahead.{Ahead, Called, Good, Bad, next_call}
+use Rattle.gw_model.specs.File.{Task, Put, Compare, Fetch, Settle, Job, Answer, Failure, File, Step, side_of, reach_of, content}
+use Rattle.gw_model.specs.Admission.{same_bytes, held}
+use Rattle.gw_model.specs.Writer.{WriterStep, range_of, work, fail, do_by, do_job, appended, compared, turn, turn_in, turn_if, turned, room}
+use Rattle.gw_model.specs.Sound.{pieces_of, IsIssued, IsStored}
+use Rattle.gw_model.proofs.Keeping.{turn_issues}
+use Rattle.gw_model.proofs.Storing.{turn_stores, next_put_appends}
+use Rattle.gw_model.proofs.Growing.{line_reaches}
+use Rattle.nfsgw.specs.World.{World, of_step, still, turn_in as world_turn, body_in, body_of}
+use Rattle.nfsgw.specs.Steps.{Context, says, added, put_by, with_line, turn_line, turn_of}
+use Rattle.nfsgw.proofs.Plain.{IsPlain, plain_next}
+use Rattle.nfsgw.proofs.Keeps.{context_of, kept_of, IsUnstable, AreUnstable, adds, AreWithin, Sound, sound_later, none_struck, OpenSound, open_later, IsGoing, Leads}
+use Rattle.nfsgw.proofs.Sends.{added_is}
+use Rattle.nfsgw.proofs.Accepts.{file_leads}
 
--- a book with these writes waiting, and a writer that is so
-abbrev pub at : List Pending → ℕ → Option Failure → Book → Book
-at ps stored failed b = record b { pending = ps; stored = stored; failed = failed }
+added_none : (c : Called) → added c [] ≡ []
+added_none Good = refl
+added_none (Bad kept) = take-nil kept
 
--- the first that waits is done
-abbrev pub past : Pending → List Pending → ℕ → Option Failure → Book → Book
-past p ps stored failed b = record b { done = b.done ++ job_of p ∷ []; pending = ps; stored = stored; failed = failed }
+-- a range below n is that of the first n bytes
+range_within : (n offset count : ℕ) (all : List ℕ) → offset + count ≤ n → range_of offset count (take n all) ≡ range_of offset count all
+range_within n offset count all h =
+    let more = n - offset in
+    let sum : n ≡ offset + more = omega (arith, h) in
+    let under : count ≤ more = omega (arith, h) in
+    ap (λ k. take count (drop offset (take k all))) sum ∙ ap (take count) (drop-take offset more all) ∙ take-take count more (drop offset all) under
 
-abbrev with_content : Pending → List ℕ → Pending
-with_content p bytes = record p { content = bytes }
+-- What a writer does with a job of a file, over all bytes and over those that are stored.
+record Works (f : File) (task : Task) (put : List ℕ) (over_stored over_all : WriterStep) : Type 0 where
+  same : over_stored ≡ over_all
+  owed : over_all.writer.owed ≡ []
+  below : over_all.writer.stored ≤ reach_of f
+  content : take over_all.writer.stored (fold f.base f.accepted) ≡ content f ++ put
+  grows : over_all.writer.failed ≡ None → (f.writer.failed ≡ None) × (over_all.writer.stored ≡ f.writer.stored + adds task)
+  plain : IsPlain over_all.ahead.left
 
-abbrev with_left : Ahead → List Outcome → Ahead
-with_left t os = record t { left = os }
+module _ (f : File) (n : ℕ) (s : Sound f n) (t : Ahead) (plain : IsPlain t.left) where
+  abbrev all : List ℕ
+  all = fold f.base f.accepted
 
-module _ (body : List ℕ) (n lines : ℕ) where
-  pub idle : (o : Option Book) (t : Ahead) → AllSound o n lines → IsPlain t.left → Leads body o lines (still (world_of body o n false) t) (steps.says (state_of o) [] t)
-  idle o t s plain = record {
-    next = o;
-    issued = n;
-    world = refl;
-    state = refl;
-    text = refl;
-    put = sym (append-nil _);
-    ahead = refl;
-    plain = plain;
-    sound = all_later o n n lines (omega arith) s;
-  }
+  -- a failed writer refuses it
+  refuses : (task : Task) (ticket : Option ℕ) (e : Failure) → IsUnstable task → f.writer.failed ≡ Some e → Works f task [] (fail task (content f) ticket f.writer t) (fail task all ticket f.writer t)
+  refuses (Put number start bytes asked level place) ticket e u failed = record { same = refl; owed = s.owed; below = s.below; content = sym (append-nil (content f)); grows = λ none. absurd (cc (failed, none)); plain = plain }
+  refuses (Compare offset bytes level) ticket e u failed = record { same = refl; owed = s.owed; below = s.below; content = sym (append-nil (content f)); grows = λ none. absurd (cc (failed, none)); plain = plain }
+  refuses (Fetch offset count) ticket e u failed = absurd u
+  refuses Settle ticket e u failed = absurd u
 
-  -- The answer to the first that waits goes out.
-  done_leads : (b : Book) (p : Pending) (ps : List Pending) (stored later : ℕ) (failed now : Option Failure) (reply : Body) (put : List ℕ) (t : Ahead)
-      → Sound (at (p ∷ ps) stored failed b) n lines → Sound (past p ps later now b) n (lines + 1) → content (file_of (past p ps later now b)) ≡ content (file_of (at (p ∷ ps) stored failed b)) ++ put → IsPlain t.left
-      → Leads body (Some (at (p ∷ ps) stored failed b)) lines
-      (of_step (world_of body (Some (at (p ∷ ps) stored failed b)) n false) (record { file = file_of (past p ps later now b); answers = record { ticket = p.ticket; body = reply } ∷ []; ahead = t; uses = true }))
-      (record { state = Some (context_of (past p ps later now b)); text = reply_line p.conn (reply_bytes p.xid reply); put = put; stopped = false; ahead = t })
-  done_leads b p ps stored later failed now reply put t s sound is plain = record {
-    next = Some (past p ps later now b);
-    issued = n;
-    world = ap (λ qs. let w : World = record (world_of body (Some (past p ps later now b)) n false) { waiting = qs } in w) (first_gone n p ps s.tickets.1);
-    state = refl;
-    text = append-nil _ ∙ first_text p (map asked_of ps) reply;
-    put = is;
-    ahead = refl;
-    plain = plain;
-    sound = sound;
-  }
+  module _ (works : f.writer.failed ≡ None) where
+    compares : (offset : ℕ) (bytes : List ℕ) (ticket : Option ℕ) → offset + length bytes ≤ f.writer.stored
+        → Works f (Compare offset bytes Unstable) [] (work (Compare offset bytes Unstable) (content f) ticket f.writer t) (work (Compare offset bytes Unstable) all ticket f.writer t)
+    compares offset bytes ticket within =
+        let c = (next_call t).called in
+        let later = (next_call t).ahead in
+        let same_test = ap (same_bytes bytes) (range_within f.writer.stored offset (length bytes) all within) in
+        let step : Called → Bool → WriterStep = λ x b. compared x b ticket (length bytes) Unstable f.writer later in
+        let done : (x : Called) (b : Bool) → Works f (Compare offset bytes Unstable) [] (step x b) (step x b) = by (plain_next t plain) in
+        subst (λ b. Works f (Compare offset bytes Unstable) [] (step c b) (step c (same_bytes bytes (range_of offset (length bytes) all)))) (sym same_test) (done c (same_bytes bytes (range_of offset (length bytes) all)))
+      where
+        by : IsPlain (next_call t).ahead.left → (x : Called) (b : Bool)
+            → Works f (Compare offset bytes Unstable) [] (compared x b ticket (length bytes) Unstable f.writer (next_call t).ahead) (compared x b ticket (length bytes) Unstable f.writer (next_call t).ahead)
+        by p (Bad kept) b = record { same = refl; owed = s.owed; below = s.below; content = sym (append-nil (content f)); grows = λ none. (works, omega arith); plain = p }
+        by p Good true = record { same = refl; owed = s.owed; below = s.below; content = sym (append-nil (content f)); grows = λ none. (works, omega arith); plain = p }
+        by p Good false = record { same = refl; owed = s.owed; below = s.below; content = sym (append-nil (content f)); grows = λ none. (works, omega arith); plain = p }
 
-  -- what stays sound, by what is stored then
-  past_sound : (b : Book) (p : Pending) (ps : List Pending) (stored later : ℕ) (failed now : Option Failure) (kept rest : List ℕ) (s : Sound (at (p ∷ ps) stored failed b) n lines)
-      → s.kept ++ s.rest ≡ kept ++ rest → later ≡ length kept → (now ≡ None → Follow (length kept) ps × (rest ≡ bytes_of ps)) → Sound (past p ps later now b) n (lines + 1)
-  past_sound b p ps stored later failed now kept rest s whole is follow = record {
-    rows = s.rows;
-    none_hangs = s.none_hangs;
-    tickets = rise_from 0 p.ticket n ps (omega arith) s.tickets.1;
-    some = s.some.1;
-    few = omega (arith, s.few);
-    few_wait = omega (arith, s.few_wait);
-    kept = kept;
-    rest = rest;
-    whole = s.whole ∙ whole;
-    stored = is;
-    follow = follow;
-  }
+    appends : (number start : ℕ) (bytes : List ℕ) (asked : ℕ) (place ticket : Option ℕ) → start ≡ f.writer.stored → ((k : ℕ) → k ≤ length bytes → take (f.writer.stored + k) all ≡ content f ++ take k bytes) → f.writer.stored + length bytes ≤ reach_of f
+        → Works f (Put number start bytes asked Unstable place) (added (next_call t).called bytes) (work (Put number start bytes asked Unstable place) (content f) ticket f.writer t) (work (Put number start bytes asked Unstable place) all ticket f.writer t)
+    appends number start [] asked place ticket at adds_so fits = record {
+      same = refl;
+      owed = s.owed;
+      below = s.below;
+      content = sym (ap (λ xs. content f ++ xs) (added_none (next_call t).called) ∙ append-nil (content f));
+      grows = λ none. (works, omega arith);
+      plain = plain;
+    }
+    appends number start (b ∷ bytes) asked place ticket at adds_so fits = go (next_call t).called (next_call t).ahead (plain_next t plain)
+      where
+        go : (c : Called) (later : Ahead) → IsPlain later.left
+            → Works f (Put number start (b ∷ bytes) asked Unstable place) (added c (b ∷ bytes)) (appended c start (length (b ∷ bytes)) ticket asked Unstable f.writer later) (appended c start (length (b ∷ bytes)) ticket asked Unstable f.writer later)
+        go Good later p =
+            let to : max f.writer.stored (start + length (b ∷ bytes)) ≡ f.writer.stored + length (b ∷ bytes) = omega (arith, at) in
+            record {
+              same = refl;
+              owed = s.owed;
+              below = omega (arith, to, fits);
+              content = ap (λ k. take k all) to ∙ adds_so (length (b ∷ bytes)) (omega arith) ∙ ap (λ xs. content f ++ xs) (take-length (b ∷ bytes));
+              grows = λ none. (works, to);
+              plain = p;
+            }
+        go (Bad kept) later p =
+            let less : min kept (length (b ∷ bytes)) ≤ length (b ∷ bytes) = omega arith in
+            record {
+              same = refl;
+              owed = s.owed;
+              below = omega (arith, less, fits);
+              content = adds_so (min kept (length (b ∷ bytes))) less ∙ ap (λ xs. content f ++ xs) (take_min kept (b ∷ bytes));
+              grows = λ none. absurd (cc none);
+              plain = p;
+            }
 
-  -- on a failed writer
-  refused_turn : (b : Book) (p : Pending) (ps : List Pending) (stored : ℕ) (e : Failure) (t : Ahead) → Sound (at (p ∷ ps) stored (Some e) b) n lines → IsPlain t.left
-      → Leads body (Some (at (p ∷ ps) stored (Some e) b)) lines (of_step (world_of body (Some (at (p ∷ ps) stored (Some e) b)) n false) (turn (file_of (at (p ∷ ps) stored (Some e) b)) t))
-      (steps.turn_held (map held_of (p ∷ ps)) (context_of (at (p ∷ ps) stored (Some e) b)) t)
-  unfolding turn do_job
-  refused_turn b p ps stored e t s plain =
-      let failed : Some e ≡ None → ⊥ = λ x. cc in
-      let sound = past_sound b p ps stored stored (Some e) (Some e) s.kept s.rest s refl s.stored (λ x. absurd (failed x)) in
-      done_leads b p ps stored stored (Some e) (Some e) (NotWritten 5) [] t s sound (sym (append-nil _)) plain
+  -- the first job of the line
+  module _ (j : Job) (js : List Job) (line : f.held.line ≡ j ∷ js) where
+    works_at : Works f j.task (put_by f.writer.failed j.task (next_call t).called) (do_job j (content f) f.writer t) (do_job j all f.writer t)
+    unfolding do_job
+    works_at = go j.task j.ticket line f.writer.failed refl
+      where
+        go : (task : Task) (ticket : Option ℕ) → f.held.line ≡ record { task = task; ticket = ticket } ∷ js → (e : Option Failure) → f.writer.failed ≡ e
+            → Works f task (put_by e task (next_call t).called) (do_by e (record { task = task; ticket = ticket }) (content f) f.writer t) (do_by e (record { task = task; ticket = ticket }) all f.writer t)
+        go task ticket at (Some e) failed = refuses task ticket e (subst AreUnstable at s.side.jobs).0 failed
+        go (Put number start bytes asked level place) ticket at None works =
+            let unstable : level ≡ Unstable = (subst AreUnstable at s.side.jobs).0 in
+            let next = next_put_appends f number start bytes asked level place ticket js s.issued s.stored works at in
+            let end = line_reaches f s.issued s.stored works s.side.ready (none_struck f n s) in
+            let first = ap (λ ks. length (joined (pieces_of ks))) at ∙ added_is (record { task = Put number start bytes asked level place; ticket = ticket }) js in
+            let P : Stable → Type 0 = λ l. Works f (Put number start bytes asked l place) (added (next_call t).called bytes) (work (Put number start bytes asked l place) (content f) ticket f.writer t) (work (Put number start bytes asked l place) all ticket f.writer t) in
+            subst P (sym unstable) (appends works number start bytes asked place ticket next.0 next.1 (omega (arith, end, first)))
+        go (Compare offset bytes level) ticket at None works =
+            let unstable : level ≡ Unstable = (subst AreUnstable at s.side.jobs).0 in
+            let within : offset + length bytes ≤ f.writer.stored = (subst (AreWithin f.writer.stored) at (s.within works)).0 in
+            let P : Stable → Type 0 = λ l. Works f (Compare offset bytes l) [] (work (Compare offset bytes l) (content f) ticket f.writer t) (work (Compare offset bytes l) all ticket f.writer t) in
+            subst P (sym unstable) (compares works offset bytes ticket within)
+        go (Fetch offset count) ticket at None works = absurd (subst AreUnstable at s.side.jobs).0
+        go Settle ticket at None works = absurd (subst AreUnstable at s.side.jobs).0
 
-  -- an append that was done
-  good_turn : (b : Book) (p : Pending) (ps : List Pending) (stored : ℕ) (t : Ahead) → Sound (at (p ∷ ps) stored None b) n lines → IsPlain t.left
-      → Leads body (Some (at (p ∷ ps) stored None b)) lines
-      (of_step (world_of body (Some (at (p ∷ ps) stored None b)) n false) (record { file = file_of (past p ps (max stored (p.start + length p.content)) None b); answers = record { ticket = p.ticket; body = Wrote (length p.content) Unstable } ∷ []; ahead = t; uses = true }))
-      (steps.appended Good (held_of p) (map held_of ps) (context_of (at (p ∷ ps) stored None b)) t)
-  unfolding past_sound
-  good_turn b p ps stored t s plain =
-      let f = s.follow refl in
-      let to : stored + length p.content ≡ max stored (p.start + length p.content) = let x = f.0.0 in let y = s.stored in omega (arith, x, y) in
-      let len = length-append s.kept p.content in
-      let sound = past_sound b p ps stored (stored + length p.content) None None (s.kept ++ p.content) (bytes_of ps) s
-      (ap (λ xs. s.kept ++ xs) f.1 ∙ sym (append_assoc s.kept p.content (bytes_of ps)))
-      (ap (λ k. k + length p.content) s.stored ∙ sym len)
-      (λ x. (subst (λ k. Follow k ps) (sym len) f.0.1, refl)) in
-      let is = content_is (past p ps (stored + length p.content) None b) n (lines + 1) sound ∙ ap (λ xs. xs ++ p.content) (sym (content_is (at (p ∷ ps) stored None b) n lines s)) in
-      let P : ℕ → Type 0 = λ k. Leads body (Some (at (p ∷ ps) stored None b)) lines
-      (of_step (world_of body (Some (at (p ∷ ps) stored None b)) n false) (record { file = file_of (past p ps k None b); answers = record { ticket = p.ticket; body = Wrote (length p.content) Unstable } ∷ []; ahead = t; uses = true }))
-      (steps.appended Good (held_of p) (map held_of ps) (context_of (at (p ∷ ps) stored None b)) t) in
-      subst P to (done_leads b p ps stored (stored + length p.content) None None (Wrote (length p.content) Unstable) p.content t s sound is plain)
+    abbrev done : WriterStep
+    done = do_job j all f.writer t
 
-  abbrev failure : ℕ → ℕ → Failure
-  failure stored kept = record { stored = stored; kept = kept }
+    turn_is : turn f t ≡ turned f j js done
+    unfolding turn
+    turn_is = ap (λ (owed : List Answer). turn_if (nat_lt (length owed) room) f t) s.owed ∙ ap (λ ks. turn_in ks f t) line
 
-  -- an append that failed
-  bad_turn : (b : Book) (p : Pending) (ps : List Pending) (stored kept : ℕ) (t : Ahead) → Sound (at (p ∷ ps) stored None b) n lines → IsPlain t.left
-      → Leads body (Some (at (p ∷ ps) stored None b)) lines
-      (of_step (world_of body (Some (at (p ∷ ps) stored None b)) n false)
-      (record { file = file_of (past p ps (stored + min kept (length p.content)) (Some (failure (stored + min kept (length p.content)) (min kept (length p.content)))) b); answers = record { ticket = p.ticket; body = NotWritten 5 } ∷ []; ahead = t; uses = true }))
-      (steps.appended (Bad kept) (held_of p) (map held_of ps) (context_of (at (p ∷ ps) stored None b)) t)
-  unfolding past_sound
-  bad_turn b p ps stored kept t s plain =
-      let f = s.follow refl in
-      let later = stored + min kept (length p.content) in
-      let now : Option Failure = Some (failure later (min kept (length p.content))) in
-      let failed : now ≡ None → ⊥ = λ x. cc in
-      let front = take kept p.content in
-      let back = drop kept p.content in
-      let whole : s.kept ++ s.rest ≡ (s.kept ++ front) ++ (back ++ bytes_of ps)
-      = ap (λ xs. s.kept ++ xs) (f.1 ∙ ap (λ xs. xs ++ bytes_of ps) (sym (take-append-drop kept p.content)) ∙ append_assoc front back (bytes_of ps)) ∙ sym (append_assoc s.kept front (back ++ bytes_of ps)) in
-      let is_stored : later ≡ length (s.kept ++ front) = let x = s.stored in omega (arith, x, length-append s.kept front, length-take kept p.content) in
-      let sound = past_sound b p ps stored later None now (s.kept ++ front) (back ++ bytes_of ps) s whole is_stored (λ x. absurd (failed x)) in
-      let is = content_is (past p ps later now b) n (lines + 1) sound ∙ ap (λ xs. xs ++ front) (sym (content_is (at (p ∷ ps) stored None b) n lines s)) in
-      done_leads b p ps stored later None now (NotWritten 5) front t s sound is plain
+    turned_sound : Sound (turned f j js done).file (n + 1)
+    turned_sound =
+        let few = s.side.few in
+        let one = ap length line in
+        record {
+          side = record { ready = s.side.ready; waiting = s.side.waiting; live = s.side.live; jobs = (subst AreUnstable line s.side.jobs).1; pending = s.side.pending; few = omega (arith, few, one) };
+          issued = subst (λ (x : Step). IsIssued x.file) turn_is (turn_issues f t s.issued);
+          stored = subst (λ (x : Step). IsStored x.file) turn_is (turn_stores f t s.issued s.stored);
+          numbered = s.numbered;
+          owed = works_at.owed;
+          below = works_at.below;
+          within = λ none.
+              let more = works_at.grows none in
+              subst (λ m. AreWithin m js) (sym more.1) (subst (AreWithin f.writer.stored) line (s.within more.0)).1;
+        }
 
-  -- on a working writer
-  working_turn : (b : Book) (p : Pending) (ps : List Pending) (bytes : List ℕ) (stored : ℕ) (t : Ahead) (os : List Outcome) → Sound (at (with_content p bytes ∷ ps) stored None b) n lines → IsPlain os
-      → Leads body (Some (at (with_content p bytes ∷ ps) stored None b)) lines (of_step (world_of body (Some (at (with_content p bytes ∷ ps) stored None b)) n false) (turn (file_of (at (with_content p bytes ∷ ps) stored None b)) (with_left t os)))
-      (steps.turn_held (map held_of (with_content p bytes ∷ ps)) (context_of (at (with_content p bytes ∷ ps) stored None b)) (with_left t os))
-  unfolding turn do_job
-  working_turn b p ps [] stored t os s plain = let some = s.some.0 in absurd (omega (arith, some))
-  working_turn b p ps (x ∷ xs) stored t [] s plain = good_turn b (with_content p (x ∷ xs)) ps stored (record t { left = []; astray = true }) s tt
-  working_turn b p ps (x ∷ xs) stored t (Done ∷ os) s plain = good_turn b (with_content p (x ∷ xs)) ps stored (with_left t os) s plain
-  working_turn b p ps (x ∷ xs) stored t (Failed kept ∷ os) s plain = bad_turn b (with_content p (x ∷ xs)) ps stored kept (with_left t os) s plain
-  working_turn b p ps (x ∷ xs) stored t (Listed objects ∷ os) s plain = absurd plain
-  working_turn b p ps (x ∷ xs) stored t (NoMemory event request ∷ os) s plain = absurd plain
+    job_leads : (w : World) → w.stopped ≡ false → Leads (content f) n (of_step w (turn f t)) (turn_line (j ∷ js) (content f) (context_of f) w.desk t)
+    job_leads w going =
+        let put = put_by f.writer.failed j.task (next_call t).called in
+        let c : WriterStep → Context = λ x. record (context_of f) { side = with_line js (side_of f); writer = x.writer } in
+        let told : Leads (content f) n (of_step w (turned f j js done)) (says (Some (c done)) w.desk done.answers put done.ahead)
+        = file_leads (content f) n w (turned f j js done) (c done) done.answers put done.ahead going refl refl refl works_at.content works_at.plain turned_sound in
+        subst (λ x. Leads (content f) n (of_step w x) (turn_line (j ∷ js) (content f) (context_of f) w.desk t)) (sym turn_is)
+        (subst (λ x. Leads (content f) n (of_step w (turned f j js done)) (says (Some (c x)) w.desk x.answers put x.ahead)) (sym works_at.same) told)
 
-  turn_of_book : (b : Book) (ps : List Pending) (stored : ℕ) (failed : Option Failure) (t : Ahead) → Sound (at ps stored failed b) n lines → IsPlain t.left
-      → Leads body (Some (at ps stored failed b)) lines (of_step (world_of body (Some (at ps stored failed b)) n false) (turn (file_of (at ps stored failed b)) t)) (steps.turn_held (map held_of ps) (context_of (at ps stored failed b)) t)
+  none_leads : (w : World) → w.stopped ≡ false → f.held.line ≡ [] → Leads (content f) n (of_step w (turn f t)) (turn_line [] (content f) (context_of f) w.desk t)
   unfolding turn
-  turn_of_book b [] stored failed t s plain = idle (Some (at [] stored failed b)) t s plain
-  turn_of_book b (p ∷ ps) stored None t s plain = working_turn b p ps p.content stored t t.left s plain
-  turn_of_book b (p ∷ ps) stored (Some e) t s plain = refused_turn b p ps stored e t s plain
+  none_leads w going none =
+      let is : turn f t ≡ held f t = ap (λ (owed : List Answer). turn_if (nat_lt (length owed) room) f t) s.owed ∙ ap (λ ks. turn_in ks f t) none in
+      subst (λ x. Leads (content f) n (of_step w x) (turn_line [] (content f) (context_of f) w.desk t)) (sym is)
+      (file_leads (content f) n w (held f t) (context_of f) [] [] t going refl refl refl (sym (append-nil (content f))) plain (sound_later f n s))
 
-  -- A turn leads to one book.
-  pub turn_leads : (o : Option Book) (t : Ahead) → AllSound o n lines → IsPlain t.left → Leads body o lines (turn_in (world_of body o n false).opened (world_of body o n false) t) (steps.turn_of (state_of o) t)
-  turn_leads None t s plain = idle None t s plain
-  turn_leads (Some b) t s plain = turn_of_book b b.pending b.stored b.failed t s plain
+  line_leads : (w : World) → w.stopped ≡ false → (js : List Job) → f.held.line ≡ js → Leads (content f) n (of_step w (turn f t)) (turn_line js (content f) (context_of f) w.desk t)
+  line_leads w going [] e = none_leads w going e
+  line_leads w going (j ∷ js) e = job_leads j js e w going
+
+module _ (w : World) (n : ℕ) (is : IsGoing w n) (t : Ahead) (plain : IsPlain t.left) where
+  -- nothing is done
+  pub idle : Leads (body_of w) n (still w t) (says (kept_of w.opened) w.desk [] [] t)
+  idle = record {
+    state = refl;
+    stopped = sym is.going;
+    text = refl;
+    put = sym (append-nil (body_of w));
+    ahead = refl;
+    plain = plain;
+    sound = open_later w.opened n is.sound;
+  }
+
+  -- A turn leads to what the program keeps.
+  pub turn_leads : Leads (body_of w) n (world_turn w.opened w t) (turn_of (kept_of w.opened) (body_of w) w.desk t)
+  turn_leads = go w.opened refl is.sound
+    where
+      go : (o : Option File) → w.opened ≡ o → OpenSound o n → Leads (body_in w.body o) n (world_turn o w t) (turn_of (kept_of o) (body_in w.body o) w.desk t)
+      go None e sound = subst (λ o. Leads (body_in w.body o) n (still w t) (says (kept_of o) w.desk [] [] t)) e idle
+      go (Some f) e sound = line_leads f n sound t plain w is.going f.held.line refl

@@ -77,24 +77,32 @@ IsShort body bytes traffic = (later : List Called) → IsFront body traffic (out
 abbrev pub nothing : Traffic
 nothing = record { taken = []; written = []; put = []; calls = [] }
 
--- What went in and out, by the status. `whole` is what was taken and what the source has left.
+-- How far the transcript was read, by the status. `whole` is what was taken and what the source has left.
+abbrev pub IsRead : Status → List ℕ → Traffic → Type 0
+IsRead status.Done whole traffic = (script whole).stop ≡ AtEnd
+IsRead (status.BadLine n) whole traffic = ((script whole).stop ≢ AtEnd) × (n ≡ length (script whole).events + 1)
+IsRead status.ReadFault whole traffic = (script traffic.taken).stop ≡ AtOpen
+IsRead status.Usage whole traffic = traffic ≡ nothing
+IsRead _ whole traffic = Unit {0}
+
+-- What went in and out, by the status.
 abbrev pub IsRun : Status → List ℕ → List ℕ → Traffic → Type 0
-IsRun status.Done body whole traffic = ((script whole).stop ≡ AtEnd) × IsWhole body whole false traffic
-IsRun (status.BadLine n) body whole traffic = ((script whole).stop ≢ AtEnd) × (n ≡ length (script whole).events + 1) × IsWhole body whole false traffic
-IsRun status.ReadFault body whole traffic = ((script traffic.taken).stop ≡ AtOpen) × IsWhole body traffic.taken false traffic
+IsRun status.Done body whole traffic = IsWhole body whole false traffic
+IsRun (status.BadLine n) body whole traffic = IsWhole body whole false traffic
+IsRun status.ReadFault body whole traffic = IsWhole body traffic.taken false traffic
 IsRun status.StoreFault body whole traffic = IsWhole body traffic.taken true traffic
 IsRun status.WriteFault body whole traffic = IsShort body traffic.taken traffic
 IsRun status.NoMemory body whole traffic = IsShort body traffic.taken traffic
-IsRun status.Usage body whole traffic = traffic ≡ nothing
+IsRun status.Usage body whole traffic = Unit {0}
 
--- The headline: bytes were read, written and put, and they are a run over what the body held. A source that tells
--- nothing counts as one that has nothing left; of a store that tells nothing some body of that length explains the run.
+-- The headline: bytes were read, written and put, and where the store tells what it holds, they are the run of the
+-- transcript over what the body held. A source that tells nothing counts as one that has nothing left. Of a store that
+-- tells nothing it is said how far the transcript was read.
 pub record Runs (tells : Type 0) (status : Status) (before after : Outside) : Type 0 where
   pub traffic : Traffic
   pub moves : Moves tells before after traffic
-  pub body : List ℕ
-  pub told : tells → before.body ≡ body
-  pub run : IsRun status body (traffic.taken ++ unwrap_or after.left []) traffic
+  pub read : IsRead status (traffic.taken ++ unwrap_or after.left []) traffic
+  pub run : tells → IsRun status before.body (traffic.taken ++ unwrap_or after.left []) traffic
 
 -- how a run may end in which nothing failed, but for the words
 abbrev pub IsDoneOr : Type 0 → Status → Type 0

@@ -4,8 +4,9 @@ pub mod World
 pub mod Grammar
 pub mod Headline
 pub mod Steps
-pub mod Replies
-pub mod Packed
+pub mod Held
+pub mod Accepting
+pub mod Answers
 pub mod Outside
 pub mod Found
 pub mod Progress

@@ -1,125 +1,121 @@
--- What the program keeps of the world, and what each event makes of that: the bytes of a write are kept until its turn alone.
-use Rattle.std.specs.Prelude.{ℕ, ◌+◌, ◌^◌, Bool, true, false, List, [], ◌∷◌, ◌++◌, length, take, min, Option, Some, None, nat_le, nat_lt, ◌==◌, if◌then◌else◌}
-use Rattle.gw_model.specs.declared.Stable.TheVariants.{Unstable}
+-- What the program keeps of the world, and what each event makes of that: of a write that was put the range alone is kept.
+use Rattle.std.specs.Prelude.{ℕ, ◌+◌, ◌^◌, Bool, true, false, ◌&&◌, ◌||◌, List, [], ◌∷◌, ◌++◌, map, length, take, Option, Some, None, is_some, nat_le, nat_lt, if◌then◌else◌}
 use Rattle.gw_model.specs.Ahead.{Ahead, Called, Good, Bad, next_call}
-use Rattle.gw_model.specs.Ending.{Fate, Lost, Stored, Open, WriteLine, Ended}
-use Rattle.nfsgw.specs.Text.{wrote_reply, refused_reply, reply_line, context_text, write_text, ended_text}
-use Rattle.nfsgw.specs.World.{fbig, notsupp}
-use Rattle.nfsgw.specs.declared.call.WriteCall.{WriteCall}
-use Rattle.nfsgw.specs.declared.open_file.Range.{Range}
-use Rattle.nfsgw.specs.declared.open_file.HeldWrite.{HeldWrite}
+use Rattle.gw_model.specs.File.{Task, Put, Job, NotWritten, Answer, Failure, Writer, Entry, Side}
+use Rattle.gw_model.specs.Admission.{io, fbig, WriteRequest}
+use Rattle.gw_model.specs.Sides.{side_opened, side_write}
+use Rattle.gw_model.specs.Writer.{do_job}
+use Rattle.gw_model.specs.Ending.{Fate, Lost, Stored, Open, WriteLine, History, Ended}
+use Rattle.tickets.specs.Desk.{DeskState, new_desk, issued}
+use Rattle.nfsgw.specs.Text.{history_text}
+use Rattle.nfsgw.specs.World.{send, unlimited, request}
 use Rattle.nfsgw.specs.declared.grammar.Event.{Event}
 use Rattle.nfsgw.specs.declared.grammar.Event.TheVariants.{MakeFile, Write, Turn}
 
--- the context of the file: the ranges of all accepted writes, and the writes whose turn hasn't come
+-- the context of the file: its length when it was opened, what the admission side sees and holds, and the writer
 pub record Context : Type 0 where
   pub base : ℕ
-  pub reach : ℕ
-  pub stored : ℕ
-  pub failed : Bool
-  pub ranges : List Range
-  pub held : List HeldWrite
+  pub side : Side
+  pub writer : Writer
 
 abbrev pub fresh : ℕ → Context
-fresh base = record { base = base; reach = base; stored = base; failed = false; ranges = []; held = [] }
+fresh base = record { base = base; side = side_opened base None 0; writer = record { stored = base; synced = base; failed = None; owed = [] } }
+
+pub record State : Type 0 where
+  pub opened : Option Context
+  pub desk : DeskState
+
+abbrev pub initial : State
+initial = record { opened = None; desk = new_desk }
 
 -- what an event leaves, what it writes, what it puts into the body, whether it ended the run, and the outcomes that are left
 pub record Step : Type 0 where
-  pub state : Option Context
+  pub state : State
   pub text : List ℕ
   pub put : List ℕ
   pub stopped : Bool
   pub ahead : Ahead
 
-abbrev pub says : Option Context → List ℕ → Ahead → Step
-says s text t = record { state = s; text = text; put = []; stopped = false; ahead = t }
+abbrev pub says : Option Context → DeskState → List Answer → List ℕ → Ahead → Step
+says c desk answers put t = let s = send desk answers in record { state = record { opened = c; desk = s.desk }; text = s.text; put = put; stopped = false; ahead = t }
 
-abbrev pub refusal : ℕ → ℕ → ℕ → List ℕ
-refusal conn xid status = reply_line conn (refused_reply xid status)
+abbrev pub refuses : Option Context → DeskState → ℕ → ℕ → Ahead → Step
+refuses c desk ticket status t = says c desk (record { ticket = ticket; body = NotWritten status } ∷ []) [] t
 
-abbrev pub accept : ℕ → WriteCall → Context → Context
-accept conn call c = record c {
-  reach = call.offset + length call.content;
-  ranges = c.ranges ++ record { offset = call.offset; count = length call.content } ∷ [];
-  held = c.held ++ record { conn = conn; xid = call.xid; content = call.content } ∷ [];
-}
+-- WRITE
 
-abbrev pub placed_if : Bool → ℕ → WriteCall → Context → Ahead → Step
-placed_if true conn call c t = says (Some (accept conn call c)) [] t
-placed_if false conn call c t = says (Some c) (refusal conn call.xid notsupp) t
+abbrev pub placed : WriteRequest → Context → DeskState → Ahead → Step
+placed q c desk t = let told = side_write unlimited c.side q in says (Some (record c { side = told.side })) desk told.answers [] t
 
-abbrev pub placed : ℕ → WriteCall → Context → Ahead → Step
-placed conn call c t = placed_if (call.offset == c.reach) conn call c t
+-- a context is opened over a body of so many bytes
+abbrev pub taken_by : Called → ℕ → WriteRequest → DeskState → Ahead → Step
+taken_by Good base q desk t = placed q (fresh base) desk t
+taken_by (Bad kept) base q desk t = refuses None desk q.ticket io t
 
-abbrev pub taken_by : Called → ℕ → ℕ → WriteCall → Ahead → Step
-taken_by Good base conn call t = placed conn call (fresh base) t
-taken_by (Bad kept) base conn call t = says None (refusal conn call.xid 5) t
+abbrev pub write_in : Option Context → ℕ → WriteRequest → DeskState → Ahead → Step
+write_in (Some c) base q desk t = placed q c desk t
+write_in None base q desk t = taken_by (next_call t).called base q desk (next_call t).ahead
 
-abbrev pub write_in : Option Context → ℕ → ℕ → WriteCall → Ahead → Step
-write_in (Some c) base conn call t = placed conn call c t
-write_in None base conn call t = taken_by (next_call t).called base conn call (next_call t).ahead
+abbrev pub write_if : Bool → Option Context → ℕ → WriteRequest → DeskState → Ahead → Step
+write_if true c base q desk t = refuses c desk q.ticket fbig t
+write_if false c base q desk t = write_in c base q desk t
 
-abbrev pub write_if : Bool → Option Context → ℕ → ℕ → WriteCall → Ahead → Step
-write_if true s base conn call t = says s (refusal conn call.xid fbig) t
-write_if false s base conn call t = write_in s base conn call t
+abbrev pub write_of : Option Context → ℕ → WriteRequest → DeskState → Ahead → Step
+write_of c base q desk t = write_if (nat_le (2 ^ 63) (q.offset + length q.bytes)) c base q desk t
 
-abbrev pub made_by : Called → Option Context → Ahead → Step
-made_by Good s t = says s [] t
+-- a turn
+
+-- what an append adds
+abbrev pub added : Called → List ℕ → List ℕ
+added Good bytes = bytes
+added (Bad kept) bytes = take kept bytes
+
+abbrev pub put_by : Option Failure → Task → Called → List ℕ
+put_by None (Put number start bytes asked level place) called = added called bytes
+put_by _ _ called = []
+
+abbrev pub with_line : List Job → Side → Side
+with_line js s = record s { held = record s.held { line = js } }
+
+-- the first job of the line is done, over what the body holds
+abbrev pub turn_line : List Job → List ℕ → Context → DeskState → Ahead → Step
+turn_line [] content c desk t = says (Some c) desk [] [] t
+turn_line (j ∷ js) content c desk t =
+    let s = do_job j content c.writer t in
+    says (Some (record c { side = with_line js c.side; writer = s.writer })) desk s.answers (put_by c.writer.failed j.task (next_call t).called) s.ahead
+
+abbrev pub turn_of : Option Context → List ℕ → DeskState → Ahead → Step
+turn_of None content desk t = says None desk [] [] t
+turn_of (Some c) content desk t = turn_line c.side.held.line content c desk t
+
+-- the `file` line
+
+abbrev pub made_by : Called → State → Ahead → Step
+made_by Good s t = record { state = s; text = []; put = []; stopped = false; ahead = t }
 made_by (Bad kept) s t = record { state = s; text = []; put = []; stopped = true; ahead = t }
 
-abbrev pub good_reply : HeldWrite → List ℕ
-good_reply h = reply_line h.conn (wrote_reply h.xid (length h.content) Unstable)
-
-abbrev pub lost_reply : HeldWrite → List ℕ
-lost_reply h = refusal h.conn h.xid 5
-
-abbrev pub appended : Called → HeldWrite → List HeldWrite → Context → Ahead → Step
-appended Good h hs c t = record { state = Some (record c { stored = c.stored + length h.content; held = hs }); text = good_reply h; put = h.content; stopped = false; ahead = t }
-appended (Bad kept) h hs c t =
-    record { state = Some (record c { stored = c.stored + min kept (length h.content); failed = true; held = hs }); text = lost_reply h; put = take kept h.content; stopped = false; ahead = t }
-
-abbrev pub turn_if : Bool → HeldWrite → List HeldWrite → Context → Ahead → Step
-turn_if true h hs c t = says (Some (record c { held = hs })) (lost_reply h) t
-turn_if false h hs c t = appended (next_call t).called h hs c (next_call t).ahead
-
-abbrev pub turn_held : List HeldWrite → Context → Ahead → Step
-turn_held [] c t = says (Some c) [] t
-turn_held (h ∷ hs) c t = turn_if c.failed h hs c t
-
-abbrev pub turn_of : Option Context → Ahead → Step
-turn_of None t = says None [] t
-turn_of (Some c) t = turn_held c.held c t
-
--- one event, over a body that held so many bytes when it was opened
-unfoldable pub step_of : ℕ → Option Context → Event → Ahead → Step
-step_of base s MakeFile t = made_by (next_call t).called s (next_call t).ahead
-step_of base s (Write conn call) t = write_if (nat_le (2 ^ 63) (call.offset + length call.content)) s base conn call t
-step_of base s Turn t = turn_of s t
+-- one event, over what the body holds
+unfoldable pub step_of : List ℕ → State → Event → Ahead → Step
+step_of content s MakeFile t = made_by (next_call t).called s (next_call t).ahead
+step_of content s (Write conn call) t = write_of s.opened (length content) (request (s.desk.last + 1) call) (issued conn call.xid s.desk) t
+step_of content s Turn t = turn_of s.opened content s.desk t
 
 -- history
 
-abbrev pub fate_by : Bool → ℕ → Range → Fate
-fate_by failed stored r = if nat_lt stored (r.offset + r.count) then (if failed then Lost else Open) else Stored
+abbrev pub fate_by : Bool → ℕ → Entry → Fate
+fate_by failed stored e =
+    let past = nat_lt stored (e.offset + e.count) in
+    if e.lost || past && failed then Lost else if past then Open else Stored
 
-abbrev pub range_by : Bool → ℕ → ℕ → Range → WriteLine
-range_by failed stored number r = record { number = number; offset = r.offset; count = r.count; fate = fate_by failed stored r; place = None }
+abbrev pub line_by : Bool → ℕ → Entry → WriteLine
+line_by failed stored e = record { number = e.number; offset = e.offset; count = e.count; fate = fate_by failed stored e; place = e.place }
 
-abbrev pub range_line : Context → ℕ → Range → WriteLine
-range_line c number r = range_by c.failed c.stored number r
-
-abbrev pub range_lines : Context → ℕ → List Range → List ℕ
-range_lines c number [] = []
-range_lines c number (r ∷ rs) = write_text (range_line c number r) ++ range_lines c (number + 1) rs
-
-abbrev pub end_line : Context → List ℕ
-end_line c = ended_text 4 (record { from = c.base; writes = []; why = Ended; reach = c.reach; stored = c.stored; synced = c.base })
-
-abbrev pub history_of : Context → List ℕ
-history_of c = context_text 4 c.base ++ range_lines c 1 c.ranges ++ end_line c
+abbrev pub history_by : Context → History
+history_by c = record { from = c.base; writes = map (line_by (is_some c.writer.failed) c.writer.stored) c.side.seen.entries; why = Ended; reach = c.side.seen.reach; stored = c.writer.stored; synced = c.writer.synced }
 
 abbrev pub end_history : Option Context → List ℕ
 end_history None = []
-end_history (Some c) = history_of c
+end_history (Some c) = history_text 4 (history_by c)
 
 -- all that comes of the events: what is written, what is put into the body, whether a failed call ended the run, and the
 -- outcomes that are left
@@ -132,8 +128,8 @@ pub record Gone : Type 0 where
 abbrev pub onto : List ℕ → List ℕ → Gone → Gone
 onto text put gone = record gone { text = text ++ gone.text; put = put ++ gone.put }
 
-abbrev pub gone_at_end : Option Context → Ahead → Gone
-gone_at_end s t = record { text = end_history s; put = []; stopped = false; ahead = t }
+abbrev pub gone_at_end : State → Ahead → Gone
+gone_at_end s t = record { text = end_history s.opened; put = []; stopped = false; ahead = t }
 
 abbrev pub gone_stopped : Step → Gone
 gone_stopped s = record { text = s.text; put = s.put; stopped = true; ahead = s.ahead }
@@ -142,7 +138,7 @@ abbrev pub gone_then : Bool → Step → Gone → Gone
 gone_then true s later = gone_stopped s
 gone_then false s later = onto s.text s.put later
 
-abbrev pub gone_of : ℕ → Option Context → List Event → Ahead → Gone
-gone_of base s [] t = gone_at_end s t
-gone_of base s (event ∷ events) t =
-    let n = step_of base s event t in gone_then n.stopped n (gone_of base n.state events n.ahead)
+abbrev pub gone_of : List ℕ → State → List Event → Ahead → Gone
+gone_of content s [] t = gone_at_end s t
+gone_of content s (event ∷ events) t =
+    let n = step_of content s event t in gone_then n.stopped n (gone_of (content ++ n.put) n.state events n.ahead)

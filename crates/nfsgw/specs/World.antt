@@ -1,35 +1,29 @@
--- The sequential definition, cut to in-order writes of one file: what each event leaves of the world, and what it writes.
-use Rattle.std.specs.Prelude.{ℕ, ◌+◌, ◌^◌, Bool, true, false, not, List, [], ◌∷◌, ◌++◌, length, Option, Some, None, nat_le, ◌==◌, if◌then◌else◌}
-use Rattle.std.specs.List.{filter}
+-- The sequential definition, cut to UNSTABLE writes of one file: what each event leaves of the world, and what it writes.
+use Rattle.std.specs.Prelude.{ℕ, ◌+◌, ◌^◌, Bool, true, false, List, [], ◌∷◌, ◌++◌, length, Option, Some, None, nat_le}
 use Rattle.gw_model.specs.declared.limits.Limits.{Limits}
 use Rattle.gw_model.specs.declared.Stable.TheVariants.{Unstable}
 use Rattle.gw_model.specs.Ahead.{Ahead, Called, Good, Bad, next_call}
-use Rattle.gw_model.specs.File.{Body, Wrote, NotWritten, Answer, File, Step, opened, content, reach_of}
-use Rattle.gw_model.specs.Admission.{io, write, at_once, WriteRequest}
+use Rattle.gw_model.specs.File.{Body, Wrote, NotWritten, Silence, Answer, File, Step, opened, content}
+use Rattle.gw_model.specs.Admission.{io, fbig, write, WriteRequest}
 use Rattle.gw_model.specs.Writer.{turn}
 use Rattle.gw_model.specs.Ending.{Ended, history_of}
+use Rattle.tickets.specs.Desk.{TicketId, DeskState, new_desk, owed, issued, dropped, answered}
 use Rattle.nfsgw.specs.Text.{wrote_reply, refused_reply, reply_line, history_text}
 use Rattle.nfsgw.specs.declared.call.WriteCall.{WriteCall}
 use Rattle.nfsgw.specs.declared.grammar.Event.{Event}
 use Rattle.nfsgw.specs.declared.grammar.Event.TheVariants.{MakeFile, Write, Turn}
 
--- a request that has no answer yet
-pub record Asked : Type 0 where
-  pub ticket : ℕ
-  pub conn : ℕ
-  pub xid : ℕ
-
 pub record World : Type 0 where
   -- what the file's body holds while the file has no context
   pub body : List ℕ
   pub opened : Option File
-  pub waiting : List Asked
-  pub issued : ℕ
+  -- the tickets issued, and those that wait for an answer
+  pub desk : DeskState
   -- the `file` line's call failed, which ends the run
   pub stopped : Bool
 
 abbrev pub start : List ℕ → World
-start body = record { body = body; opened = None; waiting = []; issued = 0; stopped = false }
+start body = record { body = body; opened = None; desk = new_desk; stopped = false }
 
 -- what the body holds
 abbrev pub body_in : List ℕ → Option File → List ℕ
@@ -55,54 +49,48 @@ reply_bytes xid (Wrote count level) = wrote_reply xid count level
 reply_bytes xid (NotWritten status) = refused_reply xid status
 reply_bytes xid _ = []
 
-abbrev pub answer_text : Answer → List Asked → List ℕ
-answer_text a [] = []
-answer_text a (q ∷ qs) = if q.ticket == a.ticket then reply_line q.conn (reply_bytes q.xid a.body) else answer_text a qs
+-- the reply's line, by the ticket that waits
+abbrev pub told_to : Option TicketId → Body → List ℕ
+told_to None body = []
+told_to (Some t) Silence = []
+told_to (Some t) body = reply_line t.conn (reply_bytes t.xid body)
 
-abbrev pub without : ℕ → List Asked → List Asked
-without ticket qs = filter (λ q. not (q.ticket == ticket)) qs
+abbrev pub spent : Body → ℕ → DeskState → DeskState
+spent Silence n d = dropped n d
+spent body n d = answered n d
 
-abbrev pub onto_text : List ℕ → Turned → Turned
-onto_text text s = record s { text = text ++ s.text }
+-- what answers leave of a desk, and the lines that they write
+pub record Sent : Type 0 where
+  pub desk : DeskState
+  pub text : List ℕ
 
-abbrev pub send : World → List Answer → Ahead → Turned
-send w [] t = still w t
-send w (a ∷ rest) t = onto_text (answer_text a w.waiting) (send (record w { waiting = without a.ticket w.waiting }) rest t)
+abbrev pub send : DeskState → List Answer → Sent
+send d [] = record { desk = d; text = [] }
+send d (a ∷ rest) = let s = send (spent a.body a.ticket d) rest in record { desk = s.desk; text = told_to (owed a.ticket d) a.body ++ s.text }
+
+abbrev pub sends : World → List Answer → Ahead → Turned
+sends w answers t = let s = send w.desk answers in record { world = record w { desk = s.desk }; text = s.text; ahead = t }
 
 abbrev pub answer : World → ℕ → ℕ → Ahead → Turned
-answer w ticket status t = send w (record { ticket = ticket; body = NotWritten status } ∷ []) t
+answer w ticket status t = sends w (record { ticket = ticket; body = NotWritten status } ∷ []) t
 
 -- what a step of the open file leaves
 abbrev pub of_step : World → Step → Turned
-of_step w s = send (record w { opened = Some s.file }) s.answers s.ahead
+of_step w s = sends (record w { opened = Some s.file }) s.answers s.ahead
 
 -- WRITE
 
--- there is no cap yet, and no line: more slots and room than a run has lines
+-- there is no cap yet, and no line: more slots and room than a run can use
 abbrev pub unlimited : Limits
-unlimited = record { commits = 2 ^ 64; history = 2 ^ 64; line_slots = 2 ^ 64; memory_cap = 2 ^ 128; memory_mark = 2 ^ 128; pending_max = 2 ^ 64; ready_cap = 2 ^ 128; spill_size = 0; timeout_ms = 2 ^ 64 }
-
-abbrev pub fbig : ℕ
-fbig = 27
-
-abbrev pub notsupp : ℕ
-notsupp = 10004
-
--- an offset that isn't the file's present end isn't supported yet
-abbrev pub in_order_if : Bool → WriteRequest → File → Ahead → Step
-in_order_if true q f t = write unlimited f q t
-in_order_if false q f t = at_once f q.ticket (NotWritten notsupp) t
-
-abbrev pub in_order : WriteRequest → File → Ahead → Step
-in_order q f t = in_order_if (q.offset == reach_of f) q f t
+unlimited = record { commits = 2 ^ 65; history = 2 ^ 65; line_slots = 2 ^ 65; memory_cap = 2 ^ 128; memory_mark = 2 ^ 128; pending_max = 2 ^ 65; ready_cap = 2 ^ 128; spill_size = 0; timeout_ms = 2 ^ 64 }
 
 -- the first write takes the body from the store, and a context is opened
 abbrev pub opened_for : Called → World → WriteRequest → Ahead → Turned
-opened_for Good w q t = of_step w (in_order q (opened w.body None 0) t)
+opened_for Good w q t = of_step w (write unlimited (opened w.body None 0) q t)
 opened_for (Bad kept) w q t = answer w q.ticket io t
 
 abbrev pub write_in : Option File → World → WriteRequest → Ahead → Turned
-write_in (Some f) w q t = of_step w (in_order q f t)
+write_in (Some f) w q t = of_step w (write unlimited f q t)
 write_in None w q t = let c = next_call t in opened_for c.called w q c.ahead
 
 -- by whether the end would be 2 ^ 63 or more
@@ -113,8 +101,9 @@ write_if false w q t = write_in w.opened w q t
 abbrev pub request : ℕ → WriteCall → WriteRequest
 request ticket call = record { offset = call.offset; bytes = call.content; level = Unstable; ticket = ticket; moment = 0 }
 
+-- each request gets a ticket
 abbrev pub ask : ℕ → ℕ → World → World
-ask conn xid w = record w { waiting = w.waiting ++ record { ticket = w.issued + 1; conn = conn; xid = xid } ∷ []; issued = w.issued + 1 }
+ask conn xid w = record w { desk = issued conn xid w.desk }
 
 abbrev pub do_write : World → WriteRequest → Ahead → Turned
 do_write w q t = write_if (nat_le (2 ^ 63) (q.offset + length q.bytes)) w q t
@@ -130,7 +119,7 @@ turn_in (Some f) w t = of_step w (turn f t)
 
 unfoldable pub next : World → Event → Ahead → Turned
 next w MakeFile t = let c = next_call t in made c.called w c.ahead
-next w (Write conn call) t = do_write (ask conn call.xid w) (request (w.issued + 1) call) t
+next w (Write conn call) t = do_write (ask conn call.xid w) (request (w.desk.last + 1) call) t
 next w Turn t = turn_in w.opened w t
 
 -- a whole run

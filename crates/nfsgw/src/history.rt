@@ -1,8 +1,9 @@
 // The lines of a history.
-ghost use Rattle.std.specs.Prelude.{◌≡◌, ◌++◌, OnOk, string_bytes};
+ghost use Rattle.std.specs.Prelude.{◌≡◌, ◌++◌, ℕ, OnOk, string_bytes};
 ghost use Rattle.gw_model.specs.Ending.{Ended};
 ghost use Rattle.nfsgw.specs.Text.{context_text, range_text, write_text, ended_line, fate_text, why_text};
-ghost use Rattle.nfsgw.specs.Steps.{fate_by, range_by};
+ghost use Rattle.nfsgw.specs.Steps.{fate_by, line_by};
+ghost use Rattle.nfsgw.specs.Held.{entry_at};
 
 use crate::open_file::Range;
 use std::alloc::AllocError;
@@ -21,7 +22,7 @@ pub fn push_context(out: &mut String, base: u64) -> Result<(), AllocError>
 
 /// What became of a range, when so many bytes are stored.
 fn fate(range: Range, stored: u64, failed: bool) -> &'static str
-    ensures { result.now ≡ fate_text (fate_by failed stored range) }
+    ensures { (n : ℕ) → result.now ≡ fate_text (fate_by failed stored (entry_at n range)) }
 {
     if u128::from(range.offset) + u128::from(range.count) <= u128::from(stored) {
         "put"
@@ -55,7 +56,7 @@ pub fn push_write(
     stored: u64,
     failed: bool,
 ) -> Result<(), AllocError>
-    ensures { OnOk result (string_bytes out.new ≡ string_bytes out.old ++ write_text (range_by failed stored number range)) }
+    ensures { OnOk result (string_bytes out.new ≡ string_bytes out.old ++ write_text (line_by failed stored (entry_at number range))) }
 {
     push_range(out, number, range, fate(range, stored, failed), "-")
 }

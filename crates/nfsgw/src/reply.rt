@@ -2,37 +2,16 @@
 ghost use Rattle.std.specs.Prelude.{◌≡◌, ◌≤◌, ◌++◌, IfOk, OnOk, string_bytes};
 ghost use Rattle.gw_model.specs.declared.Stable.TheVariants.{Unstable};
 ghost use Rattle.nfsgw.specs.Text.{accepted_head, wrote_reply, refused_reply, hex_line, reply_line};
-ghost use Rattle.nfsgw.specs.Steps.{refusal as refusal_line};
-ghost use Rattle.nfsgw.specs.Replies.{status_of as status_number};
+ghost use Rattle.nfsgw.specs.World.{reply_bytes};
+ghost use Rattle.nfsgw.specs.Answers.{body_of, IsWrite};
 
 use std::alloc::{AllocError, Global};
 use std::fmt::Write;
+use tickets::Body;
 use xdr::{NoMemory, Writer};
-
-/// What a WRITE is refused with, by the statuses of NFS version 3 (RFC 1813 section 2.6).
-#[derive(Clone, Copy, Debug, PartialEq, Eq)]
-pub enum Refusal {
-    /// `NFS3ERR_IO`.
-    Io,
-    /// `NFS3ERR_FBIG`.
-    TooBig,
-    /// `NFS3ERR_NOTSUPP`.
-    NotSupported,
-}
 
 /// The verifier of the first generation.
 const VERIFIER: u64 = 1;
-
-/// The number of a status on the wire.
-fn status_of(refusal: Refusal) -> u32
-    ensures { result ≡ status_number refusal }
-{
-    match refusal {
-        Refusal::Io => 5,
-        Refusal::TooBig => 27,
-        Refusal::NotSupported => 10_004,
-    }
-}
 
 /// What comes before the results of `count` bytes: the record mark, and the head of an accepted reply.
 #[tactic(auto, unfolding(crate::specs::Text::accepted_head))]
@@ -95,18 +74,19 @@ fn line(alloc: Global, conn: u32, reply: &[u8]) -> Result<String, AllocError>
     Ok(out)
 }
 
-/// The line of the reply to an UNSTABLE write of `count` bytes that was done. Takes memory.
-pub fn wrote(alloc: Global, conn: u32, xid: u32, count: u32) -> Result<String, AllocError>
-    ensures { IfOk result (λ text. string_bytes text ≡ reply_line conn (wrote_reply xid count Unstable)) }
+/// The line of the reply to an UNSTABLE WRITE. Takes memory.
+pub fn reply_text(alloc: Global, conn: u32, xid: u32, body: &Body) -> Result<String, AllocError>
+    requires { IsWrite body.now }
+    ensures { IfOk result (λ text. string_bytes text ≡ reply_line conn (reply_bytes xid (body_of body.now))) }
 {
-    let reply = wrote_bytes(alloc, xid, count).map_err(|_| AllocError)?;
-    line(alloc, conn, &reply)
-}
-
-/// The line of the reply to a write that is refused. Takes memory.
-pub fn refused(alloc: Global, conn: u32, xid: u32, refusal: Refusal) -> Result<String, AllocError>
-    ensures { IfOk result (λ text. string_bytes text ≡ refusal_line conn xid (status_number refusal)) }
-{
-    let reply = refused_bytes(alloc, xid, status_of(refusal)).map_err(|_| AllocError)?;
+    let Body::Write { status, count, .. } = body else {
+        unreachable!();
+    };
+    let reply = if *status == 0 {
+        wrote_bytes(alloc, xid, *count)
+    } else {
+        refused_bytes(alloc, xid, *status)
+    };
+    let reply = reply.map_err(|_| AllocError)?;
     line(alloc, conn, &reply)
 }

@@ -6,7 +6,7 @@ ghost use Rattle.append_store.specs.State.{IsAway, bytes_of};
 ghost use Rattle.transcript.specs.Script.{max_lines};
 ghost use Rattle.gw_model.specs.declared.object.ObjectId.{ObjectId};
 ghost use Rattle.nfsgw.specs.Headline.{IsReplay, IsComplete, Runs};
-ghost use Rattle.nfsgw.specs.Steps.{end_history};
+ghost use Rattle.nfsgw.specs.Steps.{initial, end_history};
 ghost use Rattle.nfsgw.specs.Outside.{body_id, body_at, faults_at, Safe, Home, IsReady, IsSmall, GivesBack};
 ghost use Rattle.nfsgw.specs.Progress.{Stands, Turns, Ends, IsEventTurn, IsWritten, status_by};
 
@@ -59,13 +59,13 @@ fn one_event<K: Sink, C: Cluster>(
     cluster: &mut C,
     body: &mut Option<C::File>,
 ) -> Turn
-    requires both { is_some body.old ≡ is_some world.old }
+    requires both { is_some body.old ≡ is_some world.old.opened }
     requires ready { IsReady C.File.tells event (C.at cluster.old body_id) (option_map (λ b. C.File.mark b) body.old) }
     requires small { IsSmall event }
     ensures moves { IsEventTurn C.File.tells result event world.old world.new (K.held sink.old) (K.held sink.new)
         (body_at (C.at cluster.old body_id) (option_map (λ b. C.File.content b) body.old)) (body_at (C.at cluster.new body_id) (option_map (λ b. C.File.content b) body.new))
         (faults_at (C.count cluster.old) (option_map (λ b. C.File.count b) body.old)) (faults_at (C.count cluster.new) (option_map (λ b. C.File.count b) body.new)) }
-    ensures both_after { result ≡ Turn.More → is_some body.new ≡ is_some world.new }
+    ensures both_after { result ≡ Turn.More → is_some body.new ≡ is_some world.new.opened }
     ensures others { C.File.tells → (q : ObjectId) → q ≢ body_id → C.at cluster.new q ≡ C.at cluster.old q }
     ensures safe { Safe C.File.tells (C.at cluster.new body_id) (option_map (λ b. C.File.mark b) body.new) }
     ensures home { result ≡ Turn.More → Home C.File.tells (C.at cluster.new body_id) (option_map (λ b. C.File.mark b) body.new) }
@@ -95,13 +95,13 @@ fn one_line<S: Source, K: Sink, C: Cluster>(
     body: &mut Option<C::File>,
 ) -> Turn
     requires few { before < max_lines }
-    requires both { is_some body.old ≡ is_some world.old }
+    requires both { is_some body.old ≡ is_some world.old.opened }
     requires stands { Stands C.File.tells (before == 0) (C.at cluster.old body_id) (option_map (λ b. C.File.mark b) body.old) }
     ensures moves { Turns C.File.tells result (record { state = world.old; first = before == 0; before = before; pending = lines.old.pending })
         (record { state = world.new; first = false; before = before + 1; pending = lines.new.pending })
         (record { left = S.left source.old; held = K.held sink.old; body = body_at (C.at cluster.old body_id) (option_map (λ b. C.File.content b) body.old); faults = faults_at (C.count cluster.old) (option_map (λ b. C.File.count b) body.old) })
         (record { left = S.left source.new; held = K.held sink.new; body = body_at (C.at cluster.new body_id) (option_map (λ b. C.File.content b) body.new); faults = faults_at (C.count cluster.new) (option_map (λ b. C.File.count b) body.new) }) }
-    ensures both_after { result ≡ Turn.More → is_some body.new ≡ is_some world.new }
+    ensures both_after { result ≡ Turn.More → is_some body.new ≡ is_some world.new.opened }
     ensures others { C.File.tells → (q : ObjectId) → q ≢ body_id → C.at cluster.new q ≡ C.at cluster.old q }
     ensures home { result ≡ Turn.More → Home C.File.tells (C.at cluster.new body_id) (option_map (λ b. C.File.mark b) body.new) }
     ensures safe { Safe C.File.tells (C.at cluster.new body_id) (option_map (λ b. C.File.mark b) body.new) }
@@ -134,7 +134,7 @@ fn all_lines<S: Source, K: Sink, C: Cluster>(
     cluster: &mut C,
     body: &mut Option<C::File>,
 ) -> Ending
-    requires fresh { world.old ≡ None }
+    requires fresh { world.old ≡ initial }
     requires no_body { body.old ≡ None }
     requires home { Safe C.File.tells (C.at cluster.old body_id) None }
     ensures moves { Ends C.File.tells result.turn result.lines world.new
@@ -182,7 +182,7 @@ fn give_back<C: Cluster>(cluster: &mut C, body: Option<C::File>)
 
 /// Writes the history of the open file.
 fn write_history<K: Sink>(alloc: Global, world: &World, sink: &mut K) -> Written
-    ensures text { IsWritten result (end_history world.now) (K.held sink.old) (K.held sink.new) }
+    ensures text { IsWritten result (end_history world.now.opened) (K.held sink.old) (K.held sink.new) }
     ensures later { K.count sink.old ≤ K.count sink.new }
     ensures cause { result ≡ Written.WriteFault → Rose (K.count sink.old) (K.count sink.new) }
 {
@@ -228,7 +228,7 @@ fn replay<S: Source, K: Sink, C: Cluster>(
     ensures others { C.File.tells → (q : ObjectId) → q ≢ body_id → C.at cluster.new q ≡ C.at cluster.old q }
     ensures not_usage { result ≢ Status.Usage }
 {
-    let mut world = World::new();
+    let mut world = World::new(alloc);
     let mut body = None;
     let ending = all_lines(alloc, &mut world, source, sink, cluster, &mut body);
     give_back(cluster, body);

@@ -1,22 +1,25 @@
 // What a run keeps of the world, and what each event makes of it.
-ghost use Rattle.std.specs.Prelude.{◌≡◌, ◌≢◌, ◌≤◌, ◌<◌, ◌+◌, ◌^◌, ℕ, [], IfOk, IfSome, OnOk, OnErr, OnSome, IfNone, None, Some, is_some, length, string_bytes, false, true};
+ghost use Rattle.std.specs.Prelude.{◌≡◌, ◌≢◌, ◌≤◌, ◌<◌, ◌+◌, ◌∷◌, ◌^◌, ℕ, [], IfOk, OnOk, OnErr, is_some, length, string_bytes, true, false, IsTrue};
 ghost use Rattle.std.specs.Option.{option_map};
 ghost use Rattle.gw_outside.specs.Causes.{Rose};
 ghost use Rattle.gw_model.specs.declared.object.ObjectId.{ObjectId};
 ghost use Rattle.append_store.specs.State.{ObjectState, bytes_of};
-ghost use Rattle.std.specs.declared.option.Option.{Option};
-ghost use Rattle.nfsgw.specs.Steps.{Context, fresh, end_history};
-ghost use Rattle.nfsgw.specs.Outside.{body_id, body_at, faults_at, Safe, Home, IsReady, IsSmall, IsText, Places, Untouched, IsStep, IsStepped};
+ghost use Rattle.nfsgw.specs.World.{send};
+ghost use Rattle.nfsgw.specs.Steps.{State, initial, end_history};
+ghost use Rattle.nfsgw.specs.Answers.{answer_of, IsWrite, Untouched};
+ghost use Rattle.nfsgw.specs.Outside.{body_id, body_at, faults_at, Safe, Home, IsReady, IsSmall, IsText, IsStep, IsCut, IsStepped, IsOpened, TakesIn};
 ghost use Rattle.nfsgw.specs.declared.grammar.Event.TheVariants.{MakeFile as MakeFileEvent, Write as WriteEvent, Turn as TurnEvent};
 
+use crate::answer::{FBIG, IO, refused};
 use crate::call::WriteCall;
 use crate::grammar::Event;
-use crate::open_file::OpenFile;
-use crate::reply::{Refusal, refused};
+use crate::open_file::{OpenFile, Verdict};
+use crate::reply::reply_text;
 use append_store::{AppendFile, Cluster, CreateFault};
 use gw_model::{ObjectId, end_of};
 use std::alloc::{AllocError, Global};
 use std::marker::Model;
+use tickets::{Answer, ReplyDesk, Sent, Ticket};
 
 /// The body of the one file.
 pub const BODY: ObjectId = ObjectId::Body {
@@ -34,19 +37,19 @@ pub enum Stepped {
     NoMemory,
 }
 
-/// The context of the file, once it was opened.
+/// The context of the file, once it was opened, and the requests that wait for an answer.
 #[derive(Drop)]
 pub struct World {
     context: Option<OpenFile>,
+    desk: ReplyDesk,
 }
 
 impl Model for World {
-    ghost use Rattle.std.specs.Prelude.{Option};
-    ghost use Rattle.nfsgw.specs.Steps.{Context};
+    ghost use Rattle.nfsgw.specs.Steps.{State};
 
-    ghost Value = { Option Context };
+    ghost Value = { State };
 
-    ghost view = { λ w. w.context };
+    ghost view = { λ w. record { opened = w.context; desk = w.desk } };
 }
 
 /// What came of an event whose text was made, or not for want of memory.
@@ -60,51 +63,10 @@ fn told(text: Result<String, AllocError>) -> Stepped
     }
 }
 
-/// A write of the open file: it is accepted at the file's present end, and refused elsewhere.
-fn place(
-    alloc: Global,
-    file: &mut OpenFile,
-    conn: u32,
-    call: WriteCall,
-) -> Result<String, AllocError>
-    requires few { length call.content ≤ 1048576 }
-    requires below { call.offset + length call.content < 2 ^ 63 }
-    ensures { IfOk result (λ text. Places conn call file.old file.new (string_bytes text)) }
-{
-    if call.offset != file.reach() {
-        return refused(alloc, conn, call.xid, Refusal::NotSupported);
-    }
-    file.accept(conn, call)?;
-    Ok(String::new(alloc))
-}
-
-/// Takes the body from the store; `None` where the store failed.
-fn open<C: Cluster>(alloc: Global, cluster: &mut C, body: &mut Option<C::File>) -> Option<OpenFile>
-    requires closed { body.old ≡ None }
-    requires home { Home C.File.tells (C.at cluster.old body_id) None }
-    ensures fresh { IfSome result (λ f. f ≡ fresh f.base) }
-    ensures sized { IfSome result (λ f. C.File.tells → f.base ≡ length (bytes_of (C.at cluster.old body_id))) }
-    ensures puts { C.File.tells → body_at (C.at cluster.new body_id) (option_map (λ b. C.File.content b) body.new) ≡ bytes_of (C.at cluster.old body_id) }
-    ensures both { is_some body.new ≡ is_some result }
-    ensures home_after { Home C.File.tells (C.at cluster.new body_id) (option_map (λ b. C.File.mark b) body.new) }
-    ensures later { C.count cluster.old ≤ faults_at (C.count cluster.new) (option_map (λ b. C.File.count b) body.new) }
-    ensures others { C.File.tells → (q : ObjectId) → q ≢ body_id → C.at cluster.new q ≡ C.at cluster.old q }
-    ensures cause { IfNone result (Rose (C.count cluster.old) (faults_at (C.count cluster.new) (option_map (λ b. C.File.count b) body.new))) }
-{
-    match cluster.take_file(BODY) {
-        Ok(file) => {
-            let base = file.len();
-            *body = Some(file);
-            Some(OpenFile::new(alloc, base))
-        }
-        Err(_) => None,
-    }
-}
-
 /// Creates the body, which is left as it is where it is there already.
 fn make_file<C: Cluster>(alloc: Global, cluster: &mut C) -> Stepped
     requires safe { Safe C.File.tells (C.at cluster.old body_id) None }
-    ensures step { (s : Option Context) → IsStepped C.File.tells result MakeFileEvent s s (bytes_of (C.at cluster.old body_id)) (bytes_of (C.at cluster.new body_id)) (C.count cluster.old) (C.count cluster.new) }
+    ensures step { (s : State) → IsStepped C.File.tells result MakeFileEvent s s (bytes_of (C.at cluster.old body_id)) (bytes_of (C.at cluster.new body_id)) (C.count cluster.old) (C.count cluster.new) }
     ensures safe_after { Safe C.File.tells (C.at cluster.new body_id) None }
     ensures home { IsText result → Home C.File.tells (C.at cluster.new body_id) None }
     ensures others { C.File.tells → (q : ObjectId) → q ≢ body_id → C.at cluster.new q ≡ C.at cluster.old q }
@@ -118,49 +80,87 @@ fn make_file<C: Cluster>(alloc: Global, cluster: &mut C) -> Stepped
 }
 
 impl World {
-    /// No file is open.
-    pub fn new() -> World
-        ensures { result ≡ None }
+    /// No file is open, and nobody waits.
+    pub fn new(alloc: Global) -> World
+        ensures { result ≡ initial }
     {
-        World { context: None }
-    }
-
-    /// The first write opens the file.
-    fn open_with<C: Cluster>(
-        &mut self,
-        alloc: Global,
-        conn: u32,
-        call: WriteCall,
-        cluster: &mut C,
-        body: &mut Option<C::File>,
-    ) -> Result<String, AllocError>
-        requires closed { self.old ≡ None }
-        requires no_body { body.old ≡ None }
-        requires home { Home C.File.tells (C.at cluster.old body_id) None }
-        requires few { length call.content ≤ 1048576 }
-        requires below { call.offset + length call.content < 2 ^ 63 }
-        ensures ok { IfOk result (λ text. IsStep C.File.tells (WriteEvent conn call) None self.new (string_bytes text) false
-            (bytes_of (C.at cluster.old body_id)) (body_at (C.at cluster.new body_id) (option_map (λ b. C.File.content b) body.new))
-            (C.count cluster.old) (faults_at (C.count cluster.new) (option_map (λ b. C.File.count b) body.new))) }
-        ensures err { OnErr result (Untouched C.File.tells
-            (bytes_of (C.at cluster.old body_id)) (body_at (C.at cluster.new body_id) (option_map (λ b. C.File.content b) body.new))
-            (C.count cluster.old) (faults_at (C.count cluster.new) (option_map (λ b. C.File.count b) body.new))) }
-        ensures both { OnOk result (is_some body.new ≡ is_some self.new) }
-        ensures others { C.File.tells → (q : ObjectId) → q ≢ body_id → C.at cluster.new q ≡ C.at cluster.old q }
-        ensures home_after { Home C.File.tells (C.at cluster.new body_id) (option_map (λ b. C.File.mark b) body.new) }
-    {
-        let lost = refused(alloc, conn, call.xid, Refusal::Io)?;
-        match open(alloc, cluster, body) {
-            Some(mut file) => {
-                let text = place(alloc, &mut file, conn, call)?;
-                self.context = Some(file);
-                Ok(text)
-            }
-            None => Ok(lost),
+        World {
+            context: None,
+            desk: ReplyDesk::new(alloc),
         }
     }
 
-    /// A WRITE. Each answer is made before the store is called.
+    /// Sends an answer, and gives what it writes.
+    fn answer(&mut self, alloc: Global, answer: Answer) -> Result<String, AllocError>
+        requires write { IsWrite answer.body }
+        ensures desk { self.new ≡ record self.old { desk = (send self.old.desk (answer_of answer ∷ [])).desk } }
+        ensures text { IfOk result (λ text. string_bytes text ≡ (send self.old.desk (answer_of answer ∷ [])).text) }
+    {
+        match self.desk.send(answer) {
+            Sent::Reply { conn, xid, body } => reply_text(alloc, conn, xid, &body),
+            Sent::Cancelled => Ok(String::new(alloc)),
+        }
+    }
+
+    /// Takes the body from the store and opens it, where it isn't open. Says whether it is open.
+    fn open<C: Cluster>(
+        &mut self,
+        alloc: Global,
+        cluster: &mut C,
+        body: &mut Option<C::File>,
+    ) -> Result<bool, AllocError>
+        requires both { is_some body.old ≡ is_some self.old.opened }
+        requires home { Home C.File.tells (C.at cluster.old body_id) (option_map (λ b. C.File.mark b) body.old) }
+        ensures ok { IfOk result (λ opened. IsOpened C.File.tells opened self.old.opened self.old.desk self.new
+            (body_at (C.at cluster.old body_id) (option_map (λ b. C.File.content b) body.old)) (body_at (C.at cluster.new body_id) (option_map (λ b. C.File.content b) body.new))
+            (faults_at (C.count cluster.old) (option_map (λ b. C.File.count b) body.old)) (faults_at (C.count cluster.new) (option_map (λ b. C.File.count b) body.new))) }
+        ensures err { OnErr result (Untouched C.File.tells
+            (body_at (C.at cluster.old body_id) (option_map (λ b. C.File.content b) body.old)) (body_at (C.at cluster.new body_id) (option_map (λ b. C.File.content b) body.new))
+            (faults_at (C.count cluster.old) (option_map (λ b. C.File.count b) body.old)) (faults_at (C.count cluster.new) (option_map (λ b. C.File.count b) body.new))) }
+        ensures both_after { OnOk result (is_some body.new ≡ is_some self.new.opened) }
+        ensures others { C.File.tells → (q : ObjectId) → q ≢ body_id → C.at cluster.new q ≡ C.at cluster.old q }
+        ensures home_after { Home C.File.tells (C.at cluster.new body_id) (option_map (λ b. C.File.mark b) body.new) }
+    {
+        if self.context.is_some() {
+            return Ok(true);
+        }
+        let Ok(file) = cluster.take_file(BODY) else {
+            return Ok(false);
+        };
+        let base = file.len();
+        *body = Some(file);
+        self.context = Some(OpenFile::new(alloc, base)?);
+        Ok(true)
+    }
+
+    /// A WRITE of the open file.
+    fn take_in(
+        &mut self,
+        alloc: Global,
+        call: WriteCall,
+        ticket: Ticket,
+    ) -> Result<String, AllocError>
+        requires open { IsTrue (is_some self.old.opened) }
+        requires few { length call.content ≤ 1048576 }
+        requires below { call.offset + length call.content < 2 ^ 63 }
+        ensures open_after { OnOk result (is_some self.new.opened ≡ true) }
+        ensures takes { IfOk result (λ text. TakesIn ticket.number call self.old.opened self.old.desk self.new (string_bytes text)) }
+    {
+        let Some(file) = &mut self.context else {
+            unreachable!();
+        };
+        match file.write(call, ticket) {
+            Verdict::Reply(answer) => self.answer(alloc, answer),
+            Verdict::Held => Ok(String::new(alloc)),
+            Verdict::Dropped(ticket) => {
+                self.desk.drop_ticket(ticket);
+                Ok(String::new(alloc))
+            }
+            Verdict::NoMemory(_) => Err(AllocError),
+        }
+    }
+
+    /// A WRITE.
     fn write<C: Cluster>(
         &mut self,
         alloc: Global,
@@ -169,7 +169,7 @@ impl World {
         cluster: &mut C,
         body: &mut Option<C::File>,
     ) -> Result<String, AllocError>
-        requires both { is_some body.old ≡ is_some self.old }
+        requires both { is_some body.old ≡ is_some self.old.opened }
         requires home { Home C.File.tells (C.at cluster.old body_id) (option_map (λ b. C.File.mark b) body.old) }
         requires few { length call.content ≤ 1048576 }
         ensures ok { IfOk result (λ text. IsStep C.File.tells (WriteEvent conn call) self.old self.new (string_bytes text) false
@@ -178,37 +178,36 @@ impl World {
         ensures err { OnErr result (Untouched C.File.tells
             (body_at (C.at cluster.old body_id) (option_map (λ b. C.File.content b) body.old)) (body_at (C.at cluster.new body_id) (option_map (λ b. C.File.content b) body.new))
             (faults_at (C.count cluster.old) (option_map (λ b. C.File.count b) body.old)) (faults_at (C.count cluster.new) (option_map (λ b. C.File.count b) body.new))) }
-        ensures both_after { OnOk result (is_some body.new ≡ is_some self.new) }
+        ensures both_after { OnOk result (is_some body.new ≡ is_some self.new.opened) }
         ensures others { C.File.tells → (q : ObjectId) → q ≢ body_id → C.at cluster.new q ≡ C.at cluster.old q }
         ensures home_after { Home C.File.tells (C.at cluster.new body_id) (option_map (λ b. C.File.mark b) body.new) }
     {
+        let Ok(ticket) = self.desk.issue(conn, call.xid) else {
+            return Err(AllocError);
+        };
         if end_of(call.offset, call.content.len() as u32).is_none() {
-            let text = refused(alloc, conn, call.xid, Refusal::TooBig)?;
-            return Ok(text);
+            return self.answer(alloc, refused(ticket, FBIG));
         }
-        match &mut self.context {
-            Some(file) => {
-                let text = place(alloc, file, conn, call)?;
-                Ok(text)
-            }
-            None => self.open_with(alloc, conn, call, cluster, body),
+        if !self.open(alloc, cluster, body)? {
+            return self.answer(alloc, refused(ticket, IO));
         }
+        self.take_in(alloc, call, ticket)
     }
 
-    /// The first write that is held is done.
+    /// The first job of the open file is done.
     fn turn<F: AppendFile>(
         &mut self,
         alloc: Global,
         body: &mut Option<F>,
     ) -> Result<String, AllocError>
-        requires both { is_some body.old ≡ is_some self.old }
+        requires both { is_some body.old ≡ is_some self.old.opened }
         ensures ok { (s : ObjectState) (n : ℕ) → IfOk result (λ text. IsStep F.tells TurnEvent self.old self.new (string_bytes text) false
             (body_at s (option_map (λ b. F.content b) body.old)) (body_at s (option_map (λ b. F.content b) body.new))
             (faults_at n (option_map (λ b. F.count b) body.old)) (faults_at n (option_map (λ b. F.count b) body.new))) }
-        ensures err { (s : ObjectState) (n : ℕ) → OnErr result (Untouched F.tells
+        ensures err { (s : ObjectState) (n : ℕ) → OnErr result (IsCut F.tells TurnEvent self.old
             (body_at s (option_map (λ b. F.content b) body.old)) (body_at s (option_map (λ b. F.content b) body.new))
             (faults_at n (option_map (λ b. F.count b) body.old)) (faults_at n (option_map (λ b. F.count b) body.new))) }
-        ensures both_after { is_some body.new ≡ is_some self.new }
+        ensures both_after { is_some body.new ≡ is_some self.new.opened }
         ensures same { option_map (λ b. F.mark b) body.new ≡ option_map (λ b. F.mark b) body.old }
     {
         let Some(file) = &mut self.context else {
@@ -217,7 +216,10 @@ impl World {
         let Some(body) = body else {
             unreachable!();
         };
-        file.turn(alloc, body)
+        match file.turn(body) {
+            Some(answer) => self.answer(alloc, answer),
+            None => Ok(String::new(alloc)),
+        }
     }
 
     /// Does an event, and gives what it writes.
@@ -228,13 +230,13 @@ impl World {
         cluster: &mut C,
         body: &mut Option<C::File>,
     ) -> Stepped
-        requires both { is_some body.old ≡ is_some self.old }
+        requires both { is_some body.old ≡ is_some self.old.opened }
         requires ready { IsReady C.File.tells event (C.at cluster.old body_id) (option_map (λ b. C.File.mark b) body.old) }
         requires small { IsSmall event }
         ensures step { IsStepped C.File.tells result event self.old self.new
             (body_at (C.at cluster.old body_id) (option_map (λ b. C.File.content b) body.old)) (body_at (C.at cluster.new body_id) (option_map (λ b. C.File.content b) body.new))
             (faults_at (C.count cluster.old) (option_map (λ b. C.File.count b) body.old)) (faults_at (C.count cluster.new) (option_map (λ b. C.File.count b) body.new)) }
-        ensures both_after { IsText result → is_some body.new ≡ is_some self.new }
+        ensures both_after { IsText result → is_some body.new ≡ is_some self.new.opened }
         ensures others { C.File.tells → (q : ObjectId) → q ≢ body_id → C.at cluster.new q ≡ C.at cluster.old q }
         ensures safe { Safe C.File.tells (C.at cluster.new body_id) (option_map (λ b. C.File.mark b) body.new) }
         ensures home { IsText result → Home C.File.tells (C.at cluster.new body_id) (option_map (λ b. C.File.mark b) body.new) }
@@ -249,7 +251,7 @@ impl World {
 
     /// The history of the open file at the end of the transcript, which is empty where none is open. Takes memory.
     pub fn history(&self, alloc: Global) -> Result<String, AllocError>
-        ensures { IfOk result (λ text. string_bytes text ≡ end_history self.now) }
+        ensures { IfOk result (λ text. string_bytes text ≡ end_history self.now.opened) }
     {
         match &self.context {
             Some(file) => file.history(alloc),

@@ -19,28 +19,28 @@ pub returns-in-Ok-Some-End-clause-moves : goal.returns-in-Ok-Some-End-clause-mov
 returns-in-Ok-Some-End-clause-moves g c =
     let r = c.in-Line.ensures.bytes in
     let is : line_of_text (c.args.before == 0) c.next.new.self.line ≡ Some End = sym (c.in-Ok-Some-End.ensures ∙ ap (line_of_text (c.args.before == 0)) c.line.ensures) ∙ c.in-Ok-Some-End.field-0-is ∙ ap Some c.in-Ok-Some-End.field-0-0-is in
-    only_read g.C.File.AppendFile.tells _ _ _ _ _ _ _ _ r.0 r.1 (refl, rests _ _ r.0 refl, settles_end (record { state = c.args.world.now; first = c.args.before == 0; before = c.args.before; pending = c.args.lines.now.pending }) _ _ _ c.requires.few r.2 is)
+    only_read g.C.File.AppendFile.tells _ _ _ _ _ _ _ _ r.0 r.1 (rests _ _ r.0 refl, settles_end (record { state = c.args.world.now; first = c.args.before == 0; before = c.args.before; pending = c.args.lines.now.pending }) _ _ _ c.requires.few r.2 is)
 
 pub returns-in-Ok-None-clause-moves : goal.returns-in-Ok-None-clause-moves
 returns-in-Ok-None-clause-moves g c =
     let r = c.in-Line.ensures.bytes in
     let is : line_of_text (c.args.before == 0) c.next.new.self.line ≡ None = sym (c.in-Ok-None.ensures ∙ ap (line_of_text (c.args.before == 0)) c.line.ensures) ∙ c.in-Ok-None.field-0-is in
-    only_read g.C.File.AppendFile.tells _ _ _ _ _ _ _ _ r.0 r.1 (refl, rests _ _ r.0 refl, settles_bad (record { state = c.args.world.now; first = c.args.before == 0; before = c.args.before; pending = c.args.lines.now.pending }) _ _ _ c.requires.few r.2 is)
+    only_read g.C.File.AppendFile.tells _ _ _ _ _ _ _ _ r.0 r.1 (rests _ _ r.0 refl, settles_bad (record { state = c.args.world.now; first = c.args.before == 0; before = c.args.before; pending = c.args.lines.now.pending }) _ _ _ c.requires.few r.2 is)
 
 pub returns-in-TooLong-clause-moves : goal.returns-in-TooLong-clause-moves
 returns-in-TooLong-clause-moves g c =
     let r = c.in-TooLong.ensures.bytes in
-    only_read g.C.File.AppendFile.tells _ _ _ _ _ _ _ _ r.0 r.1 (refl, rests _ _ r.0 refl, settles_long (record { state = c.args.world.now; first = c.args.before == 0; before = c.args.before; pending = c.args.lines.now.pending }) _ r.2.1)
+    only_read g.C.File.AppendFile.tells _ _ _ _ _ _ _ _ r.0 r.1 (rests _ _ r.0 refl, settles_long (record { state = c.args.world.now; first = c.args.before == 0; before = c.args.before; pending = c.args.lines.now.pending }) _ r.2.1)
 
 pub returns-in-AtEnd-clause-moves : goal.returns-in-AtEnd-clause-moves
 returns-in-AtEnd-clause-moves g c =
     let r = c.in-AtEnd.ensures.bytes in
-    only_read g.C.File.AppendFile.tells _ _ _ _ _ _ _ _ r.0 r.1 (refl, rests _ _ r.0 refl, r.2.1, r.2.2)
+    only_read g.C.File.AppendFile.tells _ _ _ _ _ _ _ _ r.0 r.1 (rests _ _ r.0 refl, r.2.1, r.2.2)
 
 pub returns-in-ReadFault-clause-moves : goal.returns-in-ReadFault-clause-moves
 returns-in-ReadFault-clause-moves g c =
     let r = c.in-ReadFault.ensures.bytes in
-    only_read g.C.File.AppendFile.tells _ _ _ _ _ _ _ _ r.0 r.1 (refl, rests _ _ r.0 refl, r.2.1)
+    only_read g.C.File.AppendFile.tells _ _ _ _ _ _ _ _ r.0 r.1 (rests _ _ r.0 refl, r.2.1)
 
 pub one_event-requires-clause-ready : goal.one_event-requires-clause-ready
 one_event-requires-clause-ready g c =
@@ -55,9 +55,9 @@ one_event-requires-clause-small g c =
 pub returns-in-Err-clause-moves : goal.returns-in-Err-clause-moves
 returns-in-Err-clause-moves g c =
     let r = c.in-Line.ensures.bytes in
-    only_read g.C.File.AppendFile.tells _ _ _ _ _ _ _ _ r.0 r.1 (goes_nowhere (record { state = c.args.world.now; first = c.args.before == 0; before = c.args.before; pending = c.args.lines.now.pending }) r.0)
+    only_read g.C.File.AppendFile.tells _ _ _ _ _ _ _ _ r.0 r.1 (goes_nowhere g.C.File.AppendFile.tells _ (record { state = c.args.world.now; first = c.args.before == 0; before = c.args.before; pending = c.args.lines.now.pending }) r.0)
 
 pub returns-in-NoMemory-clause-moves : goal.returns-in-NoMemory-clause-moves
 returns-in-NoMemory-clause-moves g c =
     let r = c.in-NoMemory.ensures.bytes in
-    only_read g.C.File.AppendFile.tells _ _ _ _ _ _ _ _ r.0 r.1 (goes_nowhere (record { state = c.args.world.now; first = c.args.before == 0; before = c.args.before; pending = c.args.lines.now.pending }) r.0)
+    only_read g.C.File.AppendFile.tells _ _ _ _ _ _ _ _ r.0 r.1 (goes_nowhere g.C.File.AppendFile.tells _ (record { state = c.args.world.now; first = c.args.before == 0; before = c.args.before; pending = c.args.lines.now.pending }) r.0)
