@@ -5,3 +5,4 @@ pub mod Lists
 pub mod Results
 pub mod Views
 pub mod Short
+pub mod Heads

@@ -7,6 +7,7 @@ mod by_handle;
 mod by_name;
 mod by_range;
 mod fault;
+mod head;
 mod items;
 mod laws;
 mod listing;
@@ -21,6 +22,7 @@ mod writing;
 
 pub use args::{Args, CreateHow, DirOp, NodeKind};
 pub use fault::ArgsFault;
+pub use head::{Head, body_head};
 pub use laws::{args_law, results_law};
 pub use reading::read_args;
 pub use res::{Entry, EntryPlus, FsInfo, FsStat, Mounted, PathConf, Res};
