@@ -1,22 +1,18 @@
 -- A procedure's results are read from exactly their spellings.
-use Rattle.std.proofs.Common.{inl, inr, ◌≡◌, ◌≢◌, ◌⊎◌, ⊎_elim, ℕ, ◌+◌, Bool, true, false, cond, ◌==◌, List, [], ◌∷◌, ◌++◌, length, refl, sym, ap, ◌∙◌, subst, append-nil, Option, Some, None, Result, Ok, Err}
+use Rattle.std.proofs.Common.{inl, inr, ◌≡◌, ◌≢◌, ℕ, ◌+◌, Bool, true, false, cond, ◌==◌, List, [], ◌∷◌, ◌++◌, length, refl, sym, ap, ◌∙◌, subst, append-nil, Option, Some, None, Result, Ok}
 use Rattle.std.proofs.lemmas.Bool.{eqb-true, eqb-false, ne_eqb}
 use Rattle.xdr.specs.declared.fault.XdrFault.{XdrFault}
 use Rattle.xdr.specs.Reading.{Cursor, Reading, Takes, start, u32_at, u64_at, bool_at, fixed_at, finish_at}
 use Rattle.xdr.proofs.Opaques.{finish_forth, finish_back}
 use Rattle.nfs_types.specs.declared.attr.Attr.{Attr}
-use Rattle.nfs_types.specs.declared.time.Time.{Time}
-use Rattle.nfs_types.specs.Rows.{Item, Word, Opaque, Spells, text, AllFit, word_row, long_row}
-use Rattle.nfs_types.specs.Forms.{◌>>=◌, ◌&◌, made, given}
+use Rattle.nfs_types.specs.Rows.{Item, Word, Spells, text, AllFit, word_row, long_row}
+use Rattle.nfs_types.specs.Forms.{◌&◌, made, given}
 use Rattle.nfs_types.specs.Exact.{IsExact}
 use Rattle.nfs_types.specs.Types.{time_row, time_at, attr_row, attr_at}
 use Rattle.nfs_types.proofs.Texts.{spells_text}
-use Rattle.nfs_types.proofs.Taken.{bind_ok, bind_is, got, got_is, moved, takes_none, none_taken, takes_then, Parted, takes_parts}
+use Rattle.nfs_types.proofs.Taken.{bind_ok, bind_is, got, got_is, moved, takes_none, none_taken, takes_then, takes_parts}
 use Rattle.nfs_types.proofs.Exact.{exact_u32, exact_u64, flag_row, exact_bool, exact_opaque, both, remade, made_forth, made_back}
 use Rattle.nfs_types.proofs.Types.{exact_time, exact_attr}
-use Rattle.nfs_wire.specs.declared.res.FsStat.{FsStat}
-use Rattle.nfs_wire.specs.declared.res.FsInfo.{FsInfo}
-use Rattle.nfs_wire.specs.declared.res.PathConf.{PathConf}
 use Rattle.nfs_wire.specs.Arguments.{nfs, mount, handle_row, handle_at}
 use Rattle.nfs_wire.specs.Lists.{list_row, list_at, after, nothing, zeros_row, zeros_at}
 use Rattle.nfs_wire.specs.Results as results
@@ -35,8 +31,8 @@ exact_bytes = exact_opaque 4294967295
 exact_listed : IsExact listed_at listed_row
 exact_listed =
     remade listed_of (λ e. (e.file, (e.name, e.cookie))) (u64_at & bytes_at & u64_at) (λ t. long_row t.0 ++ (bytes_row t.1.0 ++ long_row t.1.1)) listed_row
-        (both u64_at _ long_row _ exact_u64 (both bytes_at u64_at bytes_row long_row exact_bytes exact_u64))
-        (λ e. refl) (λ t. refl)
+    (both u64_at _ long_row _ exact_u64 (both bytes_at u64_at bytes_row long_row exact_bytes exact_u64))
+    (λ e. refl) (λ t. refl)
 
 abbrev handle_behind : List ℕ → List Item
 handle_behind h = Word 1 ∷ handle_row h
@@ -50,8 +46,8 @@ exact_plus_behind = exact_after 1 (attr_at & after 1 handle_at) (λ t. attr_row 
 exact_plus : IsExact plus_at plus_row
 exact_plus =
     remade plus_of (λ p. (p.entry, (p.attr, p.handle))) (listed_at & after 1 (attr_at & after 1 handle_at)) (λ t. listed_row t.0 ++ plus_behind t.1) plus_row
-        (both listed_at (after 1 (attr_at & after 1 handle_at)) listed_row plus_behind exact_listed exact_plus_behind)
-        (λ p. refl) (λ t. refl)
+    (both listed_at (after 1 (attr_at & after 1 handle_at)) listed_row plus_behind exact_listed exact_plus_behind)
+    (λ p. refl) (λ t. refl)
 
 exact_mounted : IsExact mounted_at mounted_row
 exact_mounted =
@@ -60,37 +56,37 @@ exact_mounted =
 exact_stat : IsExact stat_at stat_row
 exact_stat =
     remade stat_of (λ s. (s.tbytes, (s.fbytes, (s.abytes, (s.tfiles, (s.ffiles, (s.afiles, s.invarsec))))))) _ _ stat_row
-        (both u64_at _ long_row _ exact_u64
-        (both u64_at _ long_row _ exact_u64
-        (both u64_at _ long_row _ exact_u64
-        (both u64_at _ long_row _ exact_u64
-        (both u64_at _ long_row _ exact_u64
-        (both u64_at u32_at long_row word_row exact_u64 exact_u32))))))
-        (λ s. refl) (λ t. refl)
+    (both u64_at _ long_row _ exact_u64
+    (both u64_at _ long_row _ exact_u64
+    (both u64_at _ long_row _ exact_u64
+    (both u64_at _ long_row _ exact_u64
+    (both u64_at _ long_row _ exact_u64
+    (both u64_at u32_at long_row word_row exact_u64 exact_u32))))))
+    (λ s. refl) (λ t. refl)
 
 exact_info : IsExact info_at info_row
 exact_info =
     remade info_of (λ i. (i.rtmax, (i.rtpref, (i.rtmult, (i.wtmax, (i.wtpref, (i.wtmult, (i.dtpref, (i.maxfilesize, (i.time_delta, i.properties)))))))))) _ _ info_row
-        (both u32_at _ word_row _ exact_u32
-        (both u32_at _ word_row _ exact_u32
-        (both u32_at _ word_row _ exact_u32
-        (both u32_at _ word_row _ exact_u32
-        (both u32_at _ word_row _ exact_u32
-        (both u32_at _ word_row _ exact_u32
-        (both u32_at _ word_row _ exact_u32
-        (both u64_at _ long_row _ exact_u64
-        (both time_at u32_at time_row word_row exact_time exact_u32)))))))))
-        (λ i. refl) (λ t. refl)
+    (both u32_at _ word_row _ exact_u32
+    (both u32_at _ word_row _ exact_u32
+    (both u32_at _ word_row _ exact_u32
+    (both u32_at _ word_row _ exact_u32
+    (both u32_at _ word_row _ exact_u32
+    (both u32_at _ word_row _ exact_u32
+    (both u32_at _ word_row _ exact_u32
+    (both u64_at _ long_row _ exact_u64
+    (both time_at u32_at time_row word_row exact_time exact_u32)))))))))
+    (λ i. refl) (λ t. refl)
 
 exact_conf : IsExact conf_at conf_row
 exact_conf =
     remade conf_of (λ p. (p.linkmax, (p.name_max, (p.no_trunc, (p.chown_restricted, (p.case_insensitive, p.case_preserving)))))) _ _ conf_row
-        (both u32_at _ word_row _ exact_u32
-        (both u32_at _ word_row _ exact_u32
-        (both bool_at _ flag_row _ exact_bool
-        (both bool_at _ flag_row _ exact_bool
-        (both bool_at bool_at flag_row flag_row exact_bool exact_bool)))))
-        (λ p. refl) (λ t. refl)
+    (both u32_at _ word_row _ exact_u32
+    (both u32_at _ word_row _ exact_u32
+    (both bool_at _ flag_row _ exact_bool
+    (both bool_at _ flag_row _ exact_bool
+    (both bool_at bool_at flag_row flag_row exact_bool exact_bool)))))
+    (λ p. refl) (λ t. refl)
 
 -- attributes, and a number of words of zero
 abbrev attr_zeros : ℕ → Attr × Unit {0} → List Item

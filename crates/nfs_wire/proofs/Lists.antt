@@ -1,12 +1,11 @@
 -- Lists and words that are always the same are read from exactly their spellings.
-use Rattle.std.proofs.Common.{◌≡◌, ℕ, zero, suc, ◌+◌, ◌≤◌, ◌<◌, Bool, true, false, cond, ◌==◌, List, [], ◌∷◌, ◌++◌, length, refl, sym, ap, ◌∙◌, subst, arith, length-append, Ok, Err}
+use Rattle.std.proofs.Common.{◌≡◌, ℕ, zero, suc, ◌+◌, ◌≤◌, ◌<◌, Bool, true, false, cond, ◌==◌, List, [], ◌∷◌, ◌++◌, length, refl, ap, ◌∙◌, arith, length-append, Ok, Err}
 use Rattle.std.proofs.lemmas.Bool.{eqb-true, eq-eqb}
 use Rattle.xdr.specs.declared.fault.XdrFault.TheVariants.{BadChoice}
 use Rattle.xdr.specs.Reading.{Cursor, Reading, Takes, u32_at, bool_at}
-use Rattle.nfs_types.specs.Rows.{Item, Word, SpellsItem, Spells, word_row, flag}
-use Rattle.nfs_types.specs.Forms.{◌>>=◌}
+use Rattle.nfs_types.specs.Rows.{Item, Word, Spells, word_row, flag}
 use Rattle.nfs_types.specs.Exact.{IsExact}
-use Rattle.nfs_types.proofs.Taken.{bind_ok, bind_is, got, got_is, moved, takes_none, none_taken, one_taken, takes_then, Parted, takes_parts}
+use Rattle.nfs_types.proofs.Taken.{bind_ok, bind_is, got, got_is, moved, takes_none, none_taken, one_taken, takes_then, takes_parts}
 use Rattle.nfs_types.proofs.Exact.{exact_u32, flag_row, exact_bool}
 use Rattle.nfs_wire.specs.Lists.{list_row, more_at, list_from, list_at, after, nothing, zeros_row, zeros_at}
 
@@ -14,9 +13,9 @@ after_forth : {A : Type 0} (k : ℕ) (r : Cursor → Reading A) (p : A → List 
 after_forth k r p f c d y e =
     let w = bind_ok (u32_at c) _ _ e in
     go w.0.0 w.0.1 w.1 (w.0.0 == k) refl w.2 where
-  go : (n : ℕ) (b : Cursor) → u32_at c ≡ Ok (n, b) → (t : Bool) → (n == k) ≡ t → cond t (r b) (Err (BadChoice c.place)) ≡ Ok (y, d) → Takes Spells c (Word k ∷ p y) d
-  go n b h true q g = takes_then c b d (word_row k) (p y) (moved c b b (word_row n) (word_row k) (ap word_row (eqb-true n k q)) refl ((exact_u32 c b n).0 h)) ((f b d y).0 g)
-  go n b h false q g = cc
+      go : (n : ℕ) (b : Cursor) → u32_at c ≡ Ok (n, b) → (t : Bool) → (n == k) ≡ t → cond t (r b) (Err (BadChoice c.place)) ≡ Ok (y, d) → Takes Spells c (Word k ∷ p y) d
+      go n b h true q g = takes_then c b d (word_row k) (p y) (moved c b b (word_row n) (word_row k) (ap word_row (eqb-true n k q)) refl ((exact_u32 c b n).0 h)) ((f b d y).0 g)
+      go n b h false q g = cc
 
 after_back : {A : Type 0} (k : ℕ) (r : Cursor → Reading A) (p : A → List Item) → IsExact r p → (c d : Cursor) (y : A) → Takes Spells c (Word k ∷ p y) d → after k r c ≡ Ok (y, d)
 after_back {A = A} k r p f c d y t =

@@ -2,7 +2,7 @@
 use Rattle.std.proofs.Common.{ℕ, List, [], ◌∷◌, ◌++◌, refl}
 use Rattle.gw_model.specs.declared.Stable.{Stable}
 use Rattle.gw_model.specs.declared.Stable.TheVariants.{Unstable, DataSync, FileSync}
-use Rattle.xdr.specs.Reading.{Cursor, Reading, fixed_at, opaque_at}
+use Rattle.xdr.specs.Reading.{Cursor, Reading, fixed_at}
 use Rattle.nfs_types.specs.Rows.{Item, Fixed}
 use Rattle.nfs_types.specs.Forms.{◌&◌, made, given}
 use Rattle.nfs_types.specs.Exact.{IsExact}
@@ -11,7 +11,6 @@ use Rattle.nfs_types.specs.declared.set.SetAttr.{SetAttr}
 use Rattle.nfs_types.specs.declared.attr.Device.{Device}
 use Rattle.nfs_types.proofs.Exact.{exact_fixed, exact_opaque, both, remade, given_arm, made_arm, has_given, has_made, HasArm, union}
 use Rattle.nfs_types.proofs.Types.{exact_set, exact_device}
-use Rattle.nfs_wire.specs.declared.args.DirOp.{DirOp}
 use Rattle.nfs_wire.specs.declared.args.CreateHow.{CreateHow}
 use Rattle.nfs_wire.specs.declared.args.CreateHow.TheVariants.{Unchecked, Guarded, Exclusive}
 use Rattle.nfs_wire.specs.declared.args.NodeKind.{NodeKind}
@@ -59,8 +58,8 @@ pub exact_how : IsExact how_at how_row
 unfolding how_at
 exact_how =
     union how_row hows
-        (made_arm how_row 0 Unchecked set_at set_row exact_set (λ s. refl), (made_arm how_row 1 Guarded set_at set_row exact_set (λ s. refl), (made_arm how_row 2 Exclusive (fixed_at 8) verifier_row exact_verifier (λ v. refl), tt)))
-        how_arm
+    (made_arm how_row 0 Unchecked set_at set_row exact_set (λ s. refl), (made_arm how_row 1 Guarded set_at set_row exact_set (λ s. refl), (made_arm how_row 2 Exclusive (fixed_at 8) verifier_row exact_verifier (λ v. refl), tt)))
+    how_arm
 
 abbrev device_node_row : SetAttr × Device → List Item
 device_node_row t = set_row t.0 ++ device_row t.1
@@ -92,5 +91,5 @@ pub exact_node : IsExact node_at node_row
 unfolding node_at
 exact_node =
     union node_row nodes
-        (given_arm node_row 1 Regular refl, (given_arm node_row 2 Directory refl, (made_arm node_row 3 block_of (set_at & device_at) device_node_row exact_device_node (λ t. refl), (made_arm node_row 4 character_of (set_at & device_at) device_node_row exact_device_node (λ t. refl), (given_arm node_row 5 Link refl, (made_arm node_row 6 Socket set_at set_row exact_set (λ s. refl), (made_arm node_row 7 Fifo set_at set_row exact_set (λ s. refl), tt)))))))
-        node_arm
+    (given_arm node_row 1 Regular refl, (given_arm node_row 2 Directory refl, (made_arm node_row 3 block_of (set_at & device_at) device_node_row exact_device_node (λ t. refl), (made_arm node_row 4 character_of (set_at & device_at) device_node_row exact_device_node (λ t. refl), (given_arm node_row 5 Link refl, (made_arm node_row 6 Socket set_at set_row exact_set (λ s. refl), (made_arm node_row 7 Fifo set_at set_row exact_set (λ s. refl), tt)))))))
+    node_arm

@@ -1,5 +1,5 @@
 -- The arguments of each procedure (RFC 1813 sections 3.3 and 5.2): the row of each, and how it is read.
-use Rattle.std.specs.Prelude.{◌≡◌, ℕ, ◌==◌, if◌then◌else◌, List, [], ◌∷◌, ◌++◌, Option, Result, Ok}
+use Rattle.std.specs.Prelude.{ℕ, ◌==◌, if◌then◌else◌, List, [], ◌∷◌, ◌++◌, Option, Result, Ok}
 use Rattle.gw_model.specs.declared.Stable.{Stable}
 use Rattle.gw_model.specs.declared.Stable.TheVariants.{Unstable, DataSync, FileSync}
 use Rattle.xdr.specs.declared.fault.XdrFault.{XdrFault}
@@ -90,14 +90,14 @@ character_of p = Character p.0 p.1
 unfoldable pub node_at : Cursor → Reading NodeKind
 node_at =
     union_at (
-      (1, given Regular)
-      ∷ (2, given Directory)
-      ∷ (3, made block_of (set_at & device_at))
-      ∷ (4, made character_of (set_at & device_at))
-      ∷ (5, given Link)
-      ∷ (6, made Socket set_at)
-      ∷ (7, made Fifo set_at)
-      ∷ [])
+    (1, given Regular)
+    ∷ (2, given Directory)
+    ∷ (3, made block_of (set_at & device_at))
+    ∷ (4, made character_of (set_at & device_at))
+    ∷ (5, given Link)
+    ∷ (6, made Socket set_at)
+    ∷ (7, made Fifo set_at)
+    ∷ [])
 
 -- The rows of all procedures.
 abbrev pub args_row : Args → List Item

@@ -1,6 +1,6 @@
 -- The results of each procedure (RFC 1813 sections 3.3 and 5.2): the row of each, and how it is read. Attributes before a
 -- change are never sent: each wcc_data is the words 0, 0.
-use Rattle.std.specs.Prelude.{◌≡◌, ◌≢◌, ◌⊎◌, ℕ, ◌-◌, ◌^◌, Bool, true, false, ◌==◌, if◌then◌else◌, List, [], ◌∷◌, ◌++◌, length, Option, Some, None, Result, Ok, Err}
+use Rattle.std.specs.Prelude.{◌≡◌, ◌≢◌, ◌⊎◌, ℕ, ◌-◌, ◌^◌, Bool, ◌==◌, if◌then◌else◌, List, [], ◌∷◌, ◌++◌, Option, Some, None, Result, Ok, Err}
 use Rattle.xdr.specs.declared.fault.XdrFault.{XdrFault}
 use Rattle.xdr.specs.declared.fault.XdrFault.TheVariants.{BadChoice}
 use Rattle.xdr.specs.Reading.{Cursor, Reading, start, u32_at, u64_at, bool_at, fixed_at, opaque_at, finish_at}

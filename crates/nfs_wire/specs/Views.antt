@@ -1,5 +1,5 @@
 -- What results are seen as, without where their bytes lie.
-use Rattle.std.specs.Prelude.{ℕ, ◌<◌, ◌^◌, List, [], ◌∷◌, map, length}
+use Rattle.std.specs.Prelude.{map}
 use Rattle.nfs_wire.specs.declared.res.Res.{Res}
 use Rattle.nfs_wire.specs.declared.res.Res.TheVariants as res
 use Rattle.nfs_wire.specs.declared.res.Entry.{Entry}

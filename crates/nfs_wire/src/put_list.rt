@@ -70,9 +70,9 @@ fn put_entries_plus(writer: &mut Writer, entries: &[EntryPlus<'_>]) -> Result<()
     ensures ok { OnOk result (writer.new ≡ written writer.old (list_row plus_row (map listed_plus entries.now))) }
     ensures short { OnOk result (AllByRecursion HasShortNamePlus (map listed_plus entries.now)) }
 {
-    for entry in entries {
+    for plus in entries {
         writer.put_bool(true)?;
-        put_entry_plus(writer, entry)?;
+        put_entry_plus(writer, plus)?;
     }
     writer.put_bool(false)
 }

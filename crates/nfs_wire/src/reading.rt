@@ -48,26 +48,42 @@ fn nfs_args(items: &mut Items<'_>, message: &Bytes, proc_no: u32) -> Result<Args
 {
     match proc_no {
         0 => Ok(Args::Null),
-        1 => Ok(Args::Getattr { handle: items.handle()? }),
+        1 => Ok(Args::Getattr {
+            handle: items.handle()?,
+        }),
         2 => setattr(items),
-        3 => Ok(Args::Lookup { place: items.dir_op()? }),
+        3 => Ok(Args::Lookup {
+            place: items.dir_op()?,
+        }),
         4 => access(items),
-        5 => Ok(Args::Readlink { handle: items.handle()? }),
+        5 => Ok(Args::Readlink {
+            handle: items.handle()?,
+        }),
         6 => read(items),
         7 => write(items, message),
         8 => create(items),
         9 => mkdir(items),
         10 => symlink(items),
         11 => mknod(items),
-        12 => Ok(Args::Remove { place: items.dir_op()? }),
-        13 => Ok(Args::Rmdir { place: items.dir_op()? }),
+        12 => Ok(Args::Remove {
+            place: items.dir_op()?,
+        }),
+        13 => Ok(Args::Rmdir {
+            place: items.dir_op()?,
+        }),
         14 => rename(items),
         15 => link(items),
         16 => readdir(items),
         17 => readdirplus(items),
-        18 => Ok(Args::Fsstat { handle: items.handle()? }),
-        19 => Ok(Args::Fsinfo { handle: items.handle()? }),
-        20 => Ok(Args::Pathconf { handle: items.handle()? }),
+        18 => Ok(Args::Fsstat {
+            handle: items.handle()?,
+        }),
+        19 => Ok(Args::Fsinfo {
+            handle: items.handle()?,
+        }),
+        20 => Ok(Args::Pathconf {
+            handle: items.handle()?,
+        }),
         21 => commit(items),
         _ => Err(ArgsFault::Garbage { place: 0 }),
     }
@@ -79,9 +95,13 @@ fn mount_args(items: &mut Items<'_>, proc_no: u32) -> Result<Args, ArgsFault>
 {
     match proc_no {
         0 => Ok(Args::MountNull),
-        1 => Ok(Args::Mnt { path: items.path()? }),
+        1 => Ok(Args::Mnt {
+            path: items.path()?,
+        }),
         2 => Ok(Args::Dump),
-        3 => Ok(Args::Umnt { path: items.path()? }),
+        3 => Ok(Args::Umnt {
+            path: items.path()?,
+        }),
         4 => Ok(Args::Umntall),
         5 => Ok(Args::Export),
         _ => Err(ArgsFault::Garbage { place: 0 }),

@@ -55,11 +55,21 @@ fn handles(rt: HostRuntime) -> Result<(), Fail> {
     let alloc = rt.alloc();
     let hand = [4, HAND];
     assert!(rt; matches!(read(alloc, NFS, 0, &[])?, Args::Null));
-    assert!(rt; matches!(&read(alloc, NFS, 1, &hand)?, Args::Getattr { handle } if is_hand(handle)));
-    assert!(rt; matches!(&read(alloc, NFS, 5, &hand)?, Args::Readlink { handle } if is_hand(handle)));
-    assert!(rt; matches!(&read(alloc, NFS, 18, &hand)?, Args::Fsstat { handle } if is_hand(handle)));
-    assert!(rt; matches!(&read(alloc, NFS, 19, &hand)?, Args::Fsinfo { handle } if is_hand(handle)));
-    assert!(rt; matches!(&read(alloc, NFS, 20, &hand)?, Args::Pathconf { handle } if is_hand(handle)));
+    assert!(rt;
+        matches!(&read(alloc, NFS, 1, &hand)?, Args::Getattr { handle } if is_hand(handle))
+    );
+    assert!(rt;
+        matches!(&read(alloc, NFS, 5, &hand)?, Args::Readlink { handle } if is_hand(handle))
+    );
+    assert!(rt;
+        matches!(&read(alloc, NFS, 18, &hand)?, Args::Fsstat { handle } if is_hand(handle))
+    );
+    assert!(rt;
+        matches!(&read(alloc, NFS, 19, &hand)?, Args::Fsinfo { handle } if is_hand(handle))
+    );
+    assert!(rt;
+        matches!(&read(alloc, NFS, 20, &hand)?, Args::Pathconf { handle } if is_hand(handle))
+    );
     let access = read(alloc, NFS, 4, &[4, HAND, 31])?;
     assert!(rt; matches!(&access, Args::Access { handle, mask: 31 } if is_hand(handle)));
     Ok(())
@@ -117,7 +127,9 @@ fn ranges(rt: HostRuntime) -> Result<(), Fail> {
         _ => assert!(rt; false),
     }
     let commit = read(alloc, NFS, 21, &range)?;
-    assert!(rt; matches!(&commit, Args::Commit { handle, offset: 0x1_0000_0007, count: 9 } if is_hand(handle)));
+    assert!(rt;
+        matches!(&commit, Args::Commit { handle, offset: 0x1_0000_0007, count: 9 } if is_hand(handle))
+    );
     Ok(())
 }
 
@@ -148,18 +160,45 @@ fn write(rt: HostRuntime) -> Result<(), Fail> {
 fn makings(rt: HostRuntime) -> Result<(), Fail> {
     let alloc = rt.alloc();
     let unchecked = read(alloc, NFS, 8, &[4, HAND, 3, OLD, 0, 0, 0, 0, 0, 0, 0])?;
-    assert!(rt; matches!(&unchecked, Args::Create { place, how: CreateHow::Unchecked(set) } if is_old(place) && *set == UNSET));
+    assert!(rt;
+        matches!(&unchecked, Args::Create { place, how: CreateHow::Unchecked(set) } if is_old(place) && *set == UNSET)
+    );
     let exclusive = read(alloc, NFS, 8, &[4, HAND, 3, OLD, 2, 1, 2])?;
-    assert!(rt; matches!(&exclusive, Args::Create { how: CreateHow::Exclusive([0, 0, 0, 1, 0, 0, 0, 2]), .. }));
+    assert!(rt;
+        matches!(
+            &exclusive,
+            Args::Create {
+                how: CreateHow::Exclusive([0, 0, 0, 1, 0, 0, 0, 2]),
+                ..
+            }
+        )
+    );
     let mkdir = read(alloc, NFS, 9, &[4, HAND, 3, OLD, 0, 0, 0, 0, 0, 0])?;
     assert!(rt; matches!(&mkdir, Args::Mkdir { place, set } if is_old(place) && *set == UNSET));
     let symlink = read(alloc, NFS, 10, &[4, HAND, 3, OLD, 0, 0, 0, 0, 0, 0, 3, NEW])?;
-    assert!(rt; matches!(&symlink, Args::Symlink { path, .. } if path.as_slice() == b"new".as_slice()));
-    let block = read(alloc, NFS, 11, &[4, HAND, 3, OLD, 3, 0, 0, 0, 0, 0, 0, 8, 9])?;
+    assert!(rt;
+        matches!(&symlink, Args::Symlink { path, .. } if path.as_slice() == b"new".as_slice())
+    );
+    let block = read(
+        alloc,
+        NFS,
+        11,
+        &[4, HAND, 3, OLD, 3, 0, 0, 0, 0, 0, 0, 8, 9],
+    )?;
     let device = Device { major: 8, minor: 9 };
-    assert!(rt; matches!(&block, Args::Mknod { kind: NodeKind::Block(set, at), .. } if *set == UNSET && *at == device));
+    assert!(rt;
+        matches!(&block, Args::Mknod { kind: NodeKind::Block(set, at), .. } if *set == UNSET && *at == device)
+    );
     let regular = read(alloc, NFS, 11, &[4, HAND, 3, OLD, 1])?;
-    assert!(rt; matches!(&regular, Args::Mknod { kind: NodeKind::Regular, .. }));
+    assert!(rt;
+        matches!(
+            &regular,
+            Args::Mknod {
+                kind: NodeKind::Regular,
+                ..
+            }
+        )
+    );
     Ok(())
 }
 
@@ -181,7 +220,17 @@ fn listings(rt: HostRuntime) -> Result<(), Fail> {
         _ => assert!(rt; false),
     }
     let plus = read(alloc, NFS, 17, &[4, HAND, 0, 3, 0, 4, 512, 1024])?;
-    assert!(rt; matches!(&plus, Args::Readdirplus { cookie: 3, dircount: 512, maxcount: 1024, .. }));
+    assert!(rt;
+        matches!(
+            &plus,
+            Args::Readdirplus {
+                cookie: 3,
+                dircount: 512,
+                maxcount: 1024,
+                ..
+            }
+        )
+    );
     Ok(())
 }
 

@@ -32,15 +32,14 @@ none =
       handle = [];
     }
 
-pub loop-entry-preserved : goal.loop-entry-preserved
+pub loop-plus-preserved : goal.loop-plus-preserved
 unfolding bool_text
-loop-entry-preserved c =
+loop-plus-preserved c =
     let xs = c.args.entries.now in
-    let i = c.loop-entry.entry-index in
+    let i = c.loop-plus.plus-index in
     let x = get_or xs i none in
-    let room = c.loop-entry-test.true in
-    let done = c.in_ok-put_entry_plus.ensures in
-    (
-      list_more plus_row listed_plus xs i none x c.loop-entry.writer c.put_bool.new.self c.put_entry_plus.new.writer _ room refl c.in_ok-put_bool.ensures.ok done.ok c.loop-entry.invariant.0,
-      each_more HasShortNamePlus _ listed_plus xs i none x room refl done.short c.loop-entry.invariant.1,
+    let room = c.loop-plus-test.true in
+    let done = c.in_ok-put_entry_plus.ensures in (
+      list_more plus_row listed_plus xs i none x c.loop-plus.writer c.put_bool.new.self c.put_entry_plus.new.writer _ room refl c.in_ok-put_bool.ensures.ok done.ok c.loop-plus.invariant.0,
+      each_more HasShortNamePlus _ listed_plus xs i none x room refl done.short c.loop-plus.invariant.1,
     )

@@ -7,7 +7,7 @@ use Rattle.nfs_wire.specs.Short.{HasShortNamePlus}
 use Rattle.nfs_wire.specs.Views.{listed_plus}
 use Rattle.nfs_wire.proofs.put_list.put_entries_plus.Given as goal
 
-abbrev pub invariant-loop-entry : goal.invariant-loop-entry
-invariant-loop-entry l =
-    (written l.writer (list_row plus_row (map listed_plus (drop l.entry-index l.entries))) ≡ written l.fn.writer (list_row plus_row (map listed_plus l.entries)))
-    × (AllByRecursion HasShortNamePlus (map listed_plus (drop l.entry-index l.entries)) → AllByRecursion HasShortNamePlus (map listed_plus l.entries))
+abbrev pub invariant-loop-plus : goal.invariant-loop-plus
+invariant-loop-plus l =
+    (written l.writer (list_row plus_row (map listed_plus (drop l.plus-index l.entries))) ≡ written l.fn.writer (list_row plus_row (map listed_plus l.entries)))
+    × (AllByRecursion HasShortNamePlus (map listed_plus (drop l.plus-index l.entries)) → AllByRecursion HasShortNamePlus (map listed_plus l.entries))

@@ -1,6 +1,6 @@
 use Rattle.std.proofs.Common.{◌≡◌, List, ℕ, Ok, sym, ap, ◌∙◌, arith}
 use Rattle.xdr.specs.Reading.{opaque_at}
-use Rattle.nfs_wire.proofs.Places.{LiesIn, lies_in}
+use Rattle.nfs_wire.proofs.Places.{lies_in}
 use Rattle.nfs_wire.proofs.items.Items.slice.Goals as goal
 
 pub overflow_add-first : goal.overflow_add-first
