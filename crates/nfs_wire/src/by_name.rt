@@ -1,6 +1,8 @@
-// Arguments with more than one file (RFC 1813 sections 3.3.14, 3.3.15).
+// Arguments that are a name in a directory, or end with one (RFC 1813 sections 3.3.3, 3.3.12 to 3.3.15).
+ghost use Rattle.nfs_types.specs.Forms.{made};
+ghost use Rattle.nfs_wire.specs.declared.args.Args.{Args};
 ghost use Rattle.nfs_wire.specs.Faults.{Gives};
-ghost use Rattle.nfs_wire.specs.Arguments.{rename_at, link_at};
+ghost use Rattle.nfs_wire.specs.Arguments.{place_at, rename_at, link_at};
 
 use crate::items::Items;
 use crate::{Args, ArgsFault};
@@ -21,4 +23,25 @@ pub fn link(items: &mut Items<'_>) -> Result<Args, ArgsFault>
     let handle = items.handle()?;
     let place = items.dir_op()?;
     Ok(Args::Link { handle, place })
+}
+
+pub fn lookup(items: &mut Items<'_>) -> Result<Args, ArgsFault>
+    ensures { Gives (λ a. (a, items.new)) result (made Args.Lookup place_at items.old) }
+{
+    let place = items.dir_op()?;
+    Ok(Args::Lookup { place })
+}
+
+pub fn remove(items: &mut Items<'_>) -> Result<Args, ArgsFault>
+    ensures { Gives (λ a. (a, items.new)) result (made Args.Remove place_at items.old) }
+{
+    let place = items.dir_op()?;
+    Ok(Args::Remove { place })
+}
+
+pub fn rmdir(items: &mut Items<'_>) -> Result<Args, ArgsFault>
+    ensures { Gives (λ a. (a, items.new)) result (made Args.Rmdir place_at items.old) }
+{
+    let place = items.dir_op()?;
+    Ok(Args::Rmdir { place })
 }

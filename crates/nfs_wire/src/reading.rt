@@ -5,8 +5,8 @@ ghost use Rattle.nfs_types.specs.Forms.{arm_at};
 ghost use Rattle.nfs_wire.specs.Faults.{Gives};
 ghost use Rattle.nfs_wire.specs.Arguments.{nfs_arms, mount_arms, args_of};
 
-use crate::by_handle::{access, setattr};
-use crate::by_name::{link, rename};
+use crate::by_handle::{access, fsinfo, fsstat, getattr, pathconf, readlink, setattr};
+use crate::by_name::{link, lookup, remove, rename, rmdir};
 use crate::by_range::{commit, read, write};
 use crate::items::Items;
 use crate::listing::{readdir, readdirplus};
@@ -48,42 +48,26 @@ fn nfs_args(items: &mut Items<'_>, message: &Bytes, proc_no: u32) -> Result<Args
 {
     match proc_no {
         0 => Ok(Args::Null),
-        1 => Ok(Args::Getattr {
-            handle: items.handle()?,
-        }),
+        1 => getattr(items),
         2 => setattr(items),
-        3 => Ok(Args::Lookup {
-            place: items.dir_op()?,
-        }),
+        3 => lookup(items),
         4 => access(items),
-        5 => Ok(Args::Readlink {
-            handle: items.handle()?,
-        }),
+        5 => readlink(items),
         6 => read(items),
         7 => write(items, message),
         8 => create(items),
         9 => mkdir(items),
         10 => symlink(items),
         11 => mknod(items),
-        12 => Ok(Args::Remove {
-            place: items.dir_op()?,
-        }),
-        13 => Ok(Args::Rmdir {
-            place: items.dir_op()?,
-        }),
+        12 => remove(items),
+        13 => rmdir(items),
         14 => rename(items),
         15 => link(items),
         16 => readdir(items),
         17 => readdirplus(items),
-        18 => Ok(Args::Fsstat {
-            handle: items.handle()?,
-        }),
-        19 => Ok(Args::Fsinfo {
-            handle: items.handle()?,
-        }),
-        20 => Ok(Args::Pathconf {
-            handle: items.handle()?,
-        }),
+        18 => fsstat(items),
+        19 => fsinfo(items),
+        20 => pathconf(items),
         21 => commit(items),
         _ => Err(ArgsFault::Garbage { place: 0 }),
     }
