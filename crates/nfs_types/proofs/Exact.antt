@@ -57,13 +57,13 @@ pub both : {A B : Type 0} (r : Cursor → Reading A) (s : Cursor → Reading B) 
 both r s p q f g c d t = (both_forth r s p q f g c d t, both_back r s p q f g c d t)
 
 -- what is made of a value, and can be taken apart again
-made_forth : {A B : Type 0} (make : A → B) (r : Cursor → Reading A) (p : A → List Item) → IsExact r p → (c d : Cursor) (y : B) → made make r c ≡ Ok (y, d) → (x : A) × (make x ≡ y) × Takes Spells c (p x) d
+pub made_forth : {A B : Type 0} (make : A → B) (r : Cursor → Reading A) (p : A → List Item) → IsExact r p → (c d : Cursor) (y : B) → made make r c ≡ Ok (y, d) → (x : A) × (make x ≡ y) × Takes Spells c (p x) d
 made_forth make r p f c d y e =
     let x = bind_ok (r c) _ _ e in
     let same = got_is (make x.0.0) y x.0.1 d x.2 in
     (x.0.0, same.0, moved c x.0.1 d (p x.0.0) (p x.0.0) refl same.1 ((f c x.0.1 x.0.0).0 x.1))
 
-made_back : {A B : Type 0} (make : A → B) (r : Cursor → Reading A) (p : A → List Item) → IsExact r p → (c d : Cursor) (x : A) → Takes Spells c (p x) d → made make r c ≡ Ok (make x, d)
+pub made_back : {A B : Type 0} (make : A → B) (r : Cursor → Reading A) (p : A → List Item) → IsExact r p → (c d : Cursor) (x : A) → Takes Spells c (p x) d → made make r c ≡ Ok (make x, d)
 made_back make r p f c d x t = bind_is (r c) _ (x, d) _ ((f c d x).1 t) refl
 
 pub remade : {A B : Type 0} (make : A → B) (parts : B → A) (r : Cursor → Reading A) (p : A → List Item) (q : B → List Item) → IsExact r p → ((y : B) → make (parts y) ≡ y) → ((x : A) → q (make x) ≡ p x) → IsExact (made make r) q

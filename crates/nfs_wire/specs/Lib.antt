@@ -1,0 +1,8 @@
+pub mod Faults
+pub mod Places
+pub mod Arguments
+pub mod Lists
+pub mod Results
+pub mod Views
+pub mod Short
+pub mod Heads
