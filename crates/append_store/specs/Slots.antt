@@ -68,7 +68,7 @@ pub record IsOut (old new : Slot) (name : ObjectId) : Type 0 where
   pub losses : new.losses ≡ old.losses
 
 -- the call was counted, and nothing else changed
-pub record FailsToTake (old new : Slot) : Type 0 where
+pub record OnlyCounts (old new : Slot) : Type 0 where
   pub state : new.state ≡ old.state
   pub losses : new.losses ≡ old.losses
   pub calls : new.calls ≡ raised old.calls

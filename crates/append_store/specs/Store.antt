@@ -8,7 +8,7 @@ use Rattle.append_store.specs.File.{FileState}
 use Rattle.std.specs.BTreeMap.{get}
 use Rattle.std.specs.declared.cmp.Ordering.{Ordering}
 use Rattle.gw_model.specs.contracts.object.ObjectIdOrd.TheImpl as object_order
-use Rattle.append_store.specs.Slots.{Slot, slot_due, slot_of, FailsToTake, CountsCreate}
+use Rattle.append_store.specs.Slots.{Slot, slot_due, slot_of, OnlyCounts, CountsCreate}
 use Rattle.append_store.specs.declared.mem_cluster.MemCluster.{MemCluster}
 use Rattle.append_store.specs.declared.mem_file.Planned.{Planned}
 use Rattle.append_store.specs.declared.store.CreateFault.{CreateFault}
@@ -58,7 +58,15 @@ pub record TakesAsPlanned {T E : Type 0} (old new : StoreState) (object : Object
   pub failed : is_err result ≡ is_some (slot_due (old.slots object))
   pub planned : new.planned ≡ count_after old.planned (is_err result)
   pub starved : new.starved ≡ old.starved
-  pub slot : OnErr result (FailsToTake (old.slots object) (new.slots object))
+  pub slot : OnErr result (OnlyCounts (old.slots object) (new.slots object))
+
+-- a read fails exactly where it is named, and changes nothing but the counts
+pub record ReadsClosedAsPlanned {T E : Type 0} (old new : StoreState) (object : ObjectId) (result : Result T E) : Type 0 where
+  pub failing : new.failing ≡ old.failing
+  pub failed : is_err result ≡ is_some (slot_due (old.slots object))
+  pub planned : new.planned ≡ count_after old.planned (is_err result)
+  pub starved : new.starved ≡ old.starved
+  pub slot : OnlyCounts (old.slots object) (new.slots object)
 
 -- the file's two numbers are added
 pub record AddsFaults (old new : StoreState) (file : FileState) : Type 0 where

@@ -23,6 +23,15 @@ impl<C: Cluster> Cluster for &mut C {
         (**self).give_file(object, file)
     }
 
+    fn read_closed(
+        &mut self,
+        object: ObjectId,
+        offset: u64,
+        out: &mut [u8],
+    ) -> Result<usize, StoreFault> {
+        (**self).read_closed(object, offset, out)
+    }
+
     fn faults(&self) -> u64 {
         (**self).faults()
     }

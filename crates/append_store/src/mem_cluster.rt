@@ -1,25 +1,25 @@
 // A store in memory, which fails at the calls that it is told to fail at.
-ghost use Rattle.std.specs.Prelude.{◌≡◌, ◌≢◌, ◌⊎◌, ◌≤◌, ◌<◌, OnOk, OnErr, IfOk, IsErrOf, None};
+ghost use Rattle.std.specs.Prelude.{◌≡◌, ◌≢◌, ◌⊎◌, ◌++◌, ◌-◌, ◌≤◌, ◌<◌, min, length, drop, OnOk, OnErr, IfOk, IsErrOf, None};
 ghost use Rattle.std.specs.BTreeMap.{get};
 ghost use Rattle.std.specs.Option.{option_copied};
 ghost use Rattle.gw_model.specs.declared.object.ObjectId.{ObjectId};
 ghost use Rattle.gw_outside.specs.Causes.{HasCause, Rose, Carries};
-ghost use Rattle.append_store.specs.State.{IsThere, Kept, Missing, Lent, content_in};
-ghost use Rattle.append_store.specs.Calls.{Creates, MayCreate, Guards};
+ghost use Rattle.append_store.specs.State.{IsThere, Kept, Missing, Lent, bytes_of, content_in};
+ghost use Rattle.append_store.specs.Calls.{Creates, MayCreate, Guards, part_at};
 ghost use Rattle.append_store.specs.Plan.{is_of, plan_for};
 ghost use Rattle.append_store.specs.File.{file_count, shown};
 ghost use Rattle.append_store.specs.Slots.{CreatesSlot, IsTakenOf, IsBackAs, slot_of};
-ghost use Rattle.append_store.specs.Store.{IsNew, CreatesAsPlanned, TakesAsPlanned, AddsFaults, object_cmp, slot_at, store_count, store_of};
+ghost use Rattle.append_store.specs.Store.{IsNew, CreatesAsPlanned, TakesAsPlanned, ReadsClosedAsPlanned, AddsFaults, object_cmp, slot_at, store_count, store_of};
 
-use crate::slots::{Entry, Spot, bytes_at, create_at, give_at, take_at};
+use crate::slots::{Entry, Spot, bytes_at, create_at, give_at, read_at, take_at};
 use crate::{Cluster, CreateFault, MemFile, Planned, StoreFault};
 use gw_model::ObjectId;
 use std::alloc::{AllocError, Global};
 use std::collections::BTreeMap;
 
 /// A store in memory. The calls that are planned to fail do so: of each object `create`,
-/// `take_file` and the file's `append`, `hsync` and `read_at` are counted, from 1. A `create` of an object that is out
-/// isn't counted, and neither is one that finds no memory. A foreign file is let go.
+/// `take_file`, `read_closed` and the file's `append`, `hsync` and `read_at` are counted, from 1. A
+/// `create` of an object that is out isn't counted, and neither is one that finds no memory. A foreign file is let go.
 #[derive(Drop)]
 pub struct MemCluster {
     alloc: Global,
@@ -184,6 +184,34 @@ impl Cluster for MemCluster {
         self.starved = self.starved.saturating_add(file.starved());
         if let Some(entry) = self.entries.get_mut(&object) {
             give_at(object, entry, file);
+        }
+    }
+
+    fn read_closed(
+        &mut self,
+        object: ObjectId,
+        offset: u64,
+        out: &mut [u8],
+    ) -> Result<usize, StoreFault>
+        requires { IsThere (slot_at self.old object).state }
+        ensures bound { IfOk result (λ n. n ≤ length out.old) }
+        ensures length { IfOk result (λ n. n ≡ min (length out.old) (length (bytes_of (slot_at self.old object).state) - offset)) }
+        ensures bytes { IfOk result (λ n. out.new ≡ part_at (bytes_of (slot_at self.old object).state) offset n ++ drop n out.old) }
+        ensures same { (q : ObjectId) → (slot_at self.new q).state ≡ (slot_at self.old q).state }
+        ensures others { (q : ObjectId) → q ≢ object → slot_at self.new q ≡ slot_at self.old q }
+        ensures no_losses { (q : ObjectId) → (slot_at self.new q).losses ≡ (slot_at self.old q).losses }
+        ensures cause { HasCause (store_count (store_of self.old)) (store_count (store_of self.new)) result }
+        ensures planned { ReadsClosedAsPlanned (store_of self.old) (store_of self.new) object result }
+    {
+        match self.entries.get_mut(&object) {
+            Some(entry) => {
+                if let Some(many) = read_at(object, entry, offset, out) {
+                    return Ok(many);
+                }
+                self.planned = self.planned.saturating_add(1);
+                Err(StoreFault)
+            }
+            None => unreachable!(),
         }
     }
 

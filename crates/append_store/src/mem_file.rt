@@ -19,8 +19,8 @@ pub struct Planned {
 }
 
 /// A file in memory. The calls of its object that are planned to fail do so: `create`,
-/// `take_file`, `append`, `hsync` and `read_at` are counted, from 1, and the numbers go on from one
-/// taking to the next.
+/// `take_file`, `append`, `hsync`, `read_at` and `read_closed` are counted, from 1, and the numbers
+/// go on from one taking to the next.
 #[derive(Drop)]
 pub struct MemFile {
     object: ObjectId,
@@ -128,7 +128,7 @@ fn first_due(plan: &[Planned], call: u64) -> Option<u64>
 }
 
 // Copies what lies from an offset on into the front of a slice, as far as there is room.
-fn copy_part(bytes: &[u8], offset: u64, out: &mut [u8]) -> usize
+pub(crate) fn copy_part(bytes: &[u8], offset: u64, out: &mut [u8]) -> usize
     ensures many { result ≡ min (length out.old) (length bytes.now - offset) }
     ensures copied { out.new ≡ part_at bytes.now offset result ++ drop result out.old }
 {

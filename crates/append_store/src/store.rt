@@ -2,7 +2,7 @@
 ghost use Rattle.std.specs.Prelude.{◌≡◌, ◌≢◌, ◌⊎◌, ◌++◌, ◌-◌, ◌<◌, ◌≤◌, List, ℕ, length, min, take, drop, IfOk, IfErr, OnOk, OnErr, IsErrOf};
 ghost use Rattle.gw_outside.specs.Causes.{HasCause, Rose, Carries};
 ghost use Rattle.gw_model.specs.declared.object.ObjectId.{ObjectId};
-ghost use Rattle.append_store.specs.State.{ObjectState, Missing, Kept, Lent, IsThere};
+ghost use Rattle.append_store.specs.State.{ObjectState, Missing, Kept, Lent, IsThere, bytes_of};
 ghost use Rattle.append_store.specs.Calls.{Creates, MayCreate, Guards, added, part_at};
 
 use gw_model::ObjectId;
@@ -136,6 +136,23 @@ pub trait Cluster: Drop {
         ensures others { Self.File.tells → (q : ObjectId) → q ≢ object → at self.new q ≡ at self.old q }
         ensures no_losses { Self.File.tells → (q : ObjectId) → q ≢ object → losses self.new q ≡ losses self.old q }
         ensures count { Carries (count self.old) (Self.File.count file) (count self.new) };
+
+    /// Reads an object without taking it out: copies what lies from `offset` on into the front of
+    /// `out`, as far as there is room, and gives how many bytes that were. The rest of `out` stays.
+    /// A call that failed may have written any bytes into `out`.
+    fn read_closed(
+        &mut self,
+        object: ObjectId,
+        offset: u64,
+        out: &mut [u8],
+    ) -> Result<usize, StoreFault>
+        requires { Self.File.tells → IsThere (at self.old object) }
+        ensures bound { IfOk result (λ n. n ≤ length out.old) }
+        ensures length { IfOk result (λ n. Self.File.tells → n ≡ min (length out.old) (length (bytes_of (at self.old object)) - offset)) }
+        ensures bytes { IfOk result (λ n. Self.File.tells → out.new ≡ part_at (bytes_of (at self.old object)) offset n ++ drop n out.old) }
+        ensures same { Self.File.tells → (q : ObjectId) → at self.new q ≡ at self.old q }
+        ensures no_losses { Self.File.tells → (q : ObjectId) → losses self.new q ≡ losses self.old q }
+        ensures cause { HasCause (count self.old) (count self.new) result };
 
     /// How often the store has failed, with the failures of the files that were given back. The
     /// count never falls, and stays at the greatest u64.
