@@ -1,5 +1,5 @@
 -- What a store in memory has under a name, and what one call does there.
-use Rattle.std.specs.Prelude.{◌≡◌, ℕ, Bool, true, false, is_none, List, [], Option, Some, None}
+use Rattle.std.specs.Prelude.{◌≡◌, ◌+◌, ◌-◌, ◌^◌, ℕ, Bool, true, false, is_none, IsNone, IsSome, List, [], Option, Some, None}
 use Rattle.gw_model.specs.declared.object.ObjectId.{ObjectId}
 use Rattle.gw_outside.specs.Causes.{raised}
 use Rattle.append_store.specs.Plan.{plan_for, due_of}
@@ -7,6 +7,8 @@ use Rattle.append_store.specs.Calls.{Creates}
 use Rattle.append_store.specs.State.{ObjectState, Missing, Kept, Lent}
 use Rattle.append_store.specs.File.{FileState}
 use Rattle.append_store.specs.declared.mem_file.Planned.{Planned}
+use Rattle.append_store.specs.declared.slots.Deletion.{Deletion}
+use Rattle.append_store.specs.declared.slots.Deletion.TheVariants.{Done, Planned as PlannedFault, Full}
 use Rattle.append_store.specs.declared.slots.Entry.{Entry}
 use Rattle.append_store.specs.declared.slots.Spot.{Spot}
 use Rattle.append_store.specs.declared.slots.Spot.TheVariants.{Gone, Here, Out}
@@ -73,6 +75,19 @@ pub record OnlyCounts (old new : Slot) : Type 0 where
   pub losses : new.losses ≡ old.losses
   pub calls : new.calls ≡ raised old.calls
   pub plan : new.plan ≡ old.plan
+
+-- the object is gone, which is a loss, and the call was counted
+pub record IsDeleted (old new : Slot) : Type 0 where
+  pub state : new.state ≡ Missing
+  pub losses : new.losses ≡ old.losses + 1
+  pub calls : new.calls ≡ raised old.calls
+  pub plan : new.plan ≡ old.plan
+
+-- a deletion is done where its call isn't named, unless the losses stand at the greatest u64
+abbrev pub DeletesSlot : Slot → Slot → Deletion → Type 0
+DeletesSlot old new Done = IsNone (slot_due old) × IsDeleted old new
+DeletesSlot old new PlannedFault = IsSome (slot_due old) × OnlyCounts old new
+DeletesSlot old new Full = IsNone (slot_due old) × (old.losses ≡ 2 ^ 64 - 1) × OnlyCounts old new
 
 -- the object has what the file had
 pub record IsBackAs (old new : Slot) (file : FileState) : Type 0 where

@@ -1,5 +1,5 @@
 -- A store in memory, as contracts see it, and what its calls do with the planned failures.
-use Rattle.std.specs.Prelude.{◌≡◌, ◌+◌, ◌-◌, ◌^◌, min, ℕ, List, is_some, is_err, OnErr, IsSome, IsNone, Result, Ok, Err}
+use Rattle.std.specs.Prelude.{◌≡◌, ◌+◌, ◌-◌, ◌^◌, min, ℕ, List, is_some, is_err, OnErr, IsSome, IsNone, Option, Some, None, Result, Ok, Err}
 use Rattle.gw_model.specs.declared.object.ObjectId.{ObjectId}
 use Rattle.gw_outside.specs.Causes.{raised, count_after}
 use Rattle.append_store.specs.Plan.{plan_for}
@@ -8,7 +8,7 @@ use Rattle.append_store.specs.File.{FileState}
 use Rattle.std.specs.BTreeMap.{get}
 use Rattle.std.specs.declared.cmp.Ordering.{Ordering}
 use Rattle.gw_model.specs.contracts.object.ObjectIdOrd.TheImpl as object_order
-use Rattle.append_store.specs.Slots.{Slot, slot_due, slot_of, OnlyCounts, CountsCreate}
+use Rattle.append_store.specs.Slots.{Slot, slot_due, slot_of, OnlyCounts, CountsCreate, IsDeleted}
 use Rattle.append_store.specs.declared.mem_cluster.MemCluster.{MemCluster}
 use Rattle.append_store.specs.declared.mem_file.Planned.{Planned}
 use Rattle.append_store.specs.declared.store.CreateFault.{CreateFault}
@@ -67,6 +67,18 @@ pub record ReadsClosedAsPlanned {T E : Type 0} (old new : StoreState) (object : 
   pub planned : new.planned ≡ count_after old.planned (is_err result)
   pub starved : new.starved ≡ old.starved
   pub slot : OnlyCounts (old.slots object) (new.slots object)
+
+-- a deletion is done where its call isn't named, unless the losses stand at the greatest u64
+abbrev pub DeleteOutcome : {T E : Type 0} → Option ℕ → Slot → Slot → ℕ → ℕ → Result T E → Type 0
+DeleteOutcome None old new starved starved' (Ok x) = IsDeleted old new × (starved' ≡ starved)
+DeleteOutcome None old new starved starved' (Err e) = OnlyCounts old new × (old.losses ≡ 2 ^ 64 - 1) × (starved' ≡ raised starved)
+DeleteOutcome (Some kept) old new starved starved' (Ok x) = ⊥
+DeleteOutcome (Some kept) old new starved starved' (Err e) = OnlyCounts old new × (starved' ≡ starved)
+
+pub record DeletesAsPlanned {T E : Type 0} (old new : StoreState) (object : ObjectId) (result : Result T E) : Type 0 where
+  pub failing : new.failing ≡ old.failing
+  pub planned : new.planned ≡ count_after old.planned (is_some (slot_due (old.slots object)))
+  pub outcome : DeleteOutcome (slot_due (old.slots object)) (old.slots object) (new.slots object) old.starved new.starved result
 
 -- the file's two numbers are added
 pub record AddsFaults (old new : StoreState) (file : FileState) : Type 0 where

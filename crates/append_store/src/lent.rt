@@ -32,6 +32,10 @@ impl<C: Cluster> Cluster for &mut C {
         (**self).read_closed(object, offset, out)
     }
 
+    fn delete(&mut self, object: ObjectId) -> Result<(), StoreFault> {
+        (**self).delete(object)
+    }
+
     fn faults(&self) -> u64 {
         (**self).faults()
     }

@@ -9,17 +9,20 @@ ghost use Rattle.append_store.specs.Calls.{Creates, MayCreate, Guards, part_at};
 ghost use Rattle.append_store.specs.Plan.{is_of, plan_for};
 ghost use Rattle.append_store.specs.File.{file_count, shown};
 ghost use Rattle.append_store.specs.Slots.{CreatesSlot, IsTakenOf, IsBackAs, slot_of};
-ghost use Rattle.append_store.specs.Store.{IsNew, CreatesAsPlanned, TakesAsPlanned, ReadsClosedAsPlanned, AddsFaults, object_cmp, slot_at, store_count, store_of};
+ghost use Rattle.append_store.specs.Store.{IsNew, CreatesAsPlanned, TakesAsPlanned, ReadsClosedAsPlanned, DeletesAsPlanned, AddsFaults, object_cmp, slot_at, store_count, store_of};
 
-use crate::slots::{Entry, Spot, bytes_at, create_at, give_at, read_at, take_at};
+use crate::slots::{
+    Deletion, Entry, Spot, bytes_at, create_at, delete_at, give_at, read_at, take_at,
+};
 use crate::{Cluster, CreateFault, MemFile, Planned, StoreFault};
 use gw_model::ObjectId;
 use std::alloc::{AllocError, Global};
 use std::collections::BTreeMap;
 
 /// A store in memory. The calls that are planned to fail do so: of each object `create`,
-/// `take_file`, `read_closed` and the file's `append`, `hsync` and `read_at` are counted, from 1. A
-/// `create` of an object that is out isn't counted, and neither is one that finds no memory. A foreign file is let go.
+/// `take_file`, `read_closed`, `delete` and the file's `append`, `hsync` and `read_at` are counted,
+/// from 1, and a deletion doesn't begin anew. A `create` of an object that is out isn't counted, and
+/// neither is one that finds no memory. A foreign file is let go.
 #[derive(Drop)]
 pub struct MemCluster {
     alloc: Global,
@@ -211,6 +214,32 @@ impl Cluster for MemCluster {
                 self.planned = self.planned.saturating_add(1);
                 Err(StoreFault)
             }
+            None => unreachable!(),
+        }
+    }
+
+    fn delete(&mut self, object: ObjectId) -> Result<(), StoreFault>
+        requires { IsThere (slot_at self.old object).state }
+        ensures done { OnOk result ((slot_at self.new object).state ≡ Missing) }
+        ensures failed { OnErr result ((slot_at self.new object).state ≡ (slot_at self.old object).state) }
+        ensures others { (q : ObjectId) → q ≢ object → slot_at self.new q ≡ slot_at self.old q }
+        ensures losses { Guards (slot_at self.old object).state (slot_at self.new object).state (slot_at self.old object).losses (slot_at self.new object).losses }
+        ensures no_losses { (q : ObjectId) → q ≢ object → (slot_at self.new q).losses ≡ (slot_at self.old q).losses }
+        ensures cause { HasCause (store_count (store_of self.old)) (store_count (store_of self.new)) result }
+        ensures planned { DeletesAsPlanned (store_of self.old) (store_of self.new) object result }
+    {
+        match self.entries.get_mut(&object) {
+            Some(entry) => match delete_at(object, entry) {
+                Deletion::Done => Ok(()),
+                Deletion::Planned => {
+                    self.planned = self.planned.saturating_add(1);
+                    Err(StoreFault)
+                }
+                Deletion::Full => {
+                    self.starved = self.starved.saturating_add(1);
+                    Err(StoreFault)
+                }
+            },
             None => unreachable!(),
         }
     }

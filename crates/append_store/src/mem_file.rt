@@ -19,8 +19,8 @@ pub struct Planned {
 }
 
 /// A file in memory. The calls of its object that are planned to fail do so: `create`,
-/// `take_file`, `append`, `hsync`, `read_at` and `read_closed` are counted, from 1, and the numbers
-/// go on from one taking to the next.
+/// `take_file`, `append`, `hsync`, `read_at`, `read_closed` and `delete` are counted, from 1, and
+/// the numbers go on from one taking to the next, and after a deletion.
 #[derive(Drop)]
 pub struct MemFile {
     object: ObjectId,

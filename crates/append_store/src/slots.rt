@@ -5,7 +5,7 @@ ghost use Rattle.gw_model.specs.declared.object.ObjectId.{ObjectId};
 ghost use Rattle.append_store.specs.State.{IsThere, Lent, bytes_of, content_in};
 ghost use Rattle.append_store.specs.Calls.{part_at};
 ghost use Rattle.append_store.specs.File.{shown};
-ghost use Rattle.append_store.specs.Slots.{CreatesSlot, IsTakenOf, IsOut, OnlyCounts, IsBackAs, entry_slot, slot_due};
+ghost use Rattle.append_store.specs.Slots.{CreatesSlot, DeletesSlot, IsTakenOf, IsOut, OnlyCounts, IsBackAs, entry_slot, slot_due};
 
 use crate::mem_file::copy_part;
 use crate::MemFile;
@@ -101,6 +101,37 @@ pub(crate) fn read_at(
                 return None;
             }
             Some(copy_part(file.bytes(), offset, out))
+        }
+        _ => unreachable!(),
+    }
+}
+
+// What came of a deletion.
+pub(crate) enum Deletion {
+    Done,
+    Planned,
+    // The number of losses is the greatest u64, and can't rise.
+    Full,
+}
+
+// Takes away an object that is there. Its numbers of calls go on.
+pub(crate) fn delete_at(object: ObjectId, entry: &mut Entry) -> Deletion
+    requires { IsThere (entry_slot object entry.old).state }
+    ensures { DeletesSlot (entry_slot object entry.old) (entry_slot object entry.new) result }
+{
+    match replace(&mut entry.spot, Spot::Out) {
+        Spot::Here(mut file) => {
+            if file.due().is_some() {
+                entry.spot = Spot::Here(file);
+                return Deletion::Planned;
+            }
+            let Some(losses) = entry.losses.checked_add(1) else {
+                entry.spot = Spot::Here(file);
+                return Deletion::Full;
+            };
+            entry.spot = Spot::Gone(file.emptied());
+            entry.losses = losses;
+            Deletion::Done
         }
         _ => unreachable!(),
     }

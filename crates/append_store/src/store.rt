@@ -93,8 +93,8 @@ pub trait Cluster: Drop {
     /// What the store has under a name.
     ghost at: { Self → ObjectId → ObjectState };
 
-    /// How often the durable length of an object fell, at a moment inside a call too. It never
-    /// falls, also when the object is gone.
+    /// How often the durable length of an object fell, or the object was taken away, at a moment
+    /// inside a call too. It never falls, also when the object is gone.
     ghost losses: { Self → ObjectId → ℕ };
 
     /// How often the store has failed, with the failures of the files that were given back.
@@ -152,6 +152,16 @@ pub trait Cluster: Drop {
         ensures bytes { IfOk result (λ n. Self.File.tells → out.new ≡ part_at (bytes_of (at self.old object)) offset n ++ drop n out.old) }
         ensures same { Self.File.tells → (q : ObjectId) → at self.new q ≡ at self.old q }
         ensures no_losses { Self.File.tells → (q : ObjectId) → losses self.new q ≡ losses self.old q }
+        ensures cause { HasCause (count self.old) (count self.new) result };
+
+    /// Takes an object away, with its bytes. A call that failed may have taken it away.
+    fn delete(&mut self, object: ObjectId) -> Result<(), StoreFault>
+        requires { Self.File.tells → IsThere (at self.old object) }
+        ensures done { OnOk result (Self.File.tells → at self.new object ≡ Missing) }
+        ensures failed { OnErr result (Self.File.tells → (at self.new object ≡ at self.old object) ⊎ (at self.new object ≡ Missing)) }
+        ensures others { Self.File.tells → (q : ObjectId) → q ≢ object → at self.new q ≡ at self.old q }
+        ensures losses { Self.File.tells → Guards (at self.old object) (at self.new object) (losses self.old object) (losses self.new object) }
+        ensures no_losses { Self.File.tells → (q : ObjectId) → q ≢ object → losses self.new q ≡ losses self.old q }
         ensures cause { HasCause (count self.old) (count self.new) result };
 
     /// How often the store has failed, with the failures of the files that were given back. The
