@@ -1,5 +1,6 @@
 -- What a store in memory has under a name, and what one call does there.
-use Rattle.std.specs.Prelude.{◌≡◌, ◌+◌, ◌-◌, ◌^◌, ℕ, Bool, true, false, is_none, IsNone, IsSome, List, [], Option, Some, None}
+use Rattle.std.specs.Prelude.{◌≡◌, ◌+◌, ◌-◌, ◌^◌, ℕ, Bool, true, false, is_none, IsNone, IsSome, List, [], ◌∷◌, length, Option, Some, None}
+use Rattle.gw_model.specs.declared.object.KeptObject.{KeptObject}
 use Rattle.gw_model.specs.declared.object.ObjectId.{ObjectId}
 use Rattle.gw_outside.specs.Causes.{raised}
 use Rattle.append_store.specs.Plan.{plan_for, due_of}
@@ -33,6 +34,17 @@ entry_slot object entry = spot_slot object entry.spot entry.losses
 abbrev pub slot_of : List Planned → ObjectId → Option Entry → Slot
 slot_of failing object None = record { state = Missing; losses = 0; calls = 0; plan = plan_for object failing }
 slot_of failing object (Some entry) = entry_slot object entry
+
+-- an object that is there, with its length
+abbrev pub listed_one : ObjectId → Spot → List KeptObject → List KeptObject
+listed_one object (Gone f) rest = rest
+listed_one object (Here f) rest = record { object = object; length = length f.bytes.items } ∷ rest
+listed_one object Out rest = rest
+
+-- the entries that are there, with their lengths, in order
+abbrev pub listed : List (ObjectId × Entry) → List KeptObject
+listed [] = []
+listed (e ∷ es) = listed_one e.0 e.1.spot (listed es)
 
 -- a create is counted, but of an object that is out
 abbrev pub calls_after_create : ObjectState → ℕ → ℕ

@@ -141,6 +141,7 @@ pub(crate) fn copy_part(bytes: &[u8], offset: u64, out: &mut [u8]) -> usize
 }
 
 impl MemFile {
+    ghost use Rattle.std.specs.Prelude.{length};
     ghost use Rattle.append_store.specs.File.{IsFresh, IsDue, IsEmptied, IsHandedOut, shown};
 
     // A file of no bytes, with the calls of this object that are to fail.
@@ -189,6 +190,12 @@ impl MemFile {
         ensures { result ≡ (shown self.now).starved }
     {
         self.starved
+    }
+
+    pub(crate) fn length(&self) -> u64
+        ensures { result ≡ length (shown self.now).content }
+    {
+        self.bytes.len() as u64
     }
 
     pub(crate) fn bytes(&self) -> &[u8]

@@ -2,10 +2,10 @@
 ghost use Rattle.std.specs.Prelude.{◌≡◌, ◌≢◌, ◌⊎◌, ◌++◌, ◌-◌, ◌<◌, ◌≤◌, List, ℕ, length, min, take, drop, IfOk, IfErr, OnOk, OnErr, IsErrOf};
 ghost use Rattle.gw_outside.specs.Causes.{HasCause, Rose, Carries};
 ghost use Rattle.gw_model.specs.declared.object.ObjectId.{ObjectId};
-ghost use Rattle.append_store.specs.State.{ObjectState, Missing, Kept, Lent, IsThere, bytes_of};
-ghost use Rattle.append_store.specs.Calls.{Creates, MayCreate, Guards, added, part_at};
+ghost use Rattle.append_store.specs.State.{ObjectState, Missing, Kept, Lent, IsAway, IsThere, bytes_of};
+ghost use Rattle.append_store.specs.Calls.{Creates, MayCreate, Guards, IsRising, Lists, added, part_at};
 
-use gw_model::ObjectId;
+use gw_model::{KeptObject, ObjectId};
 
 /// An append that failed.
 #[derive(Clone, Copy, Debug, PartialEq, Eq)]
@@ -17,6 +17,15 @@ pub struct AppendFault {
 /// Another call of a file or a store that failed.
 #[derive(Clone, Copy, Debug, PartialEq, Eq)]
 pub struct StoreFault;
+
+/// Why the objects weren't listed.
+#[derive(Clone, Copy, Debug, PartialEq, Eq)]
+pub enum ListFault {
+    /// The store failed.
+    Fault,
+    /// Memory was refused.
+    Memory,
+}
 
 /// Why an object wasn't created.
 #[derive(Clone, Copy, Debug, PartialEq, Eq)]
@@ -99,6 +108,17 @@ pub trait Cluster: Drop {
 
     /// How often the store has failed, with the failures of the files that were given back.
     ghost count: { Self → ℕ };
+
+    /// The objects that are there, with their lengths in bytes: logs first, then by numbers. No
+    /// object may be out. Takes memory.
+    fn list(&mut self) -> Result<Vec<KeptObject>, ListFault>
+        requires { Self.File.tells → (q : ObjectId) → IsAway (at self.old q) → ⊥ }
+        ensures listed { IfOk result (λ all. Self.File.tells → Lists (at self.old) all.items) }
+        ensures rising { IfOk result (λ all. IsRising all.items) }
+        ensures same { Self.File.tells → (q : ObjectId) → at self.new q ≡ at self.old q }
+        ensures no_losses { Self.File.tells → (q : ObjectId) → losses self.new q ≡ losses self.old q }
+        ensures later { count self.old ≤ count self.new }
+        ensures cause { IsErrOf result ListFault.Fault → Rose (count self.old) (count self.new) };
 
     /// Makes an object of no bytes where nothing is, and leaves one that is there as it is. A call
     /// that failed may have made it. Takes memory.
