@@ -5,7 +5,7 @@ use Rattle.gw_model.specs.declared.object.ObjectId.{ObjectId}
 use Rattle.gw_outside.specs.Causes.{raised}
 use Rattle.append_store.specs.Plan.{plan_for, due_of}
 use Rattle.append_store.specs.Calls.{Creates}
-use Rattle.append_store.specs.State.{ObjectState, Missing, Kept, Lent}
+use Rattle.append_store.specs.State.{ObjectState, Missing, Kept, Lent, IsCrashImage, cut_state}
 use Rattle.append_store.specs.File.{FileState}
 use Rattle.append_store.specs.declared.mem_file.Planned.{Planned}
 use Rattle.append_store.specs.declared.slots.Deletion.{Deletion}
@@ -100,6 +100,21 @@ abbrev pub DeletesSlot : Slot → Slot → Deletion → Type 0
 DeletesSlot old new Done = IsNone (slot_due old) × IsDeleted old new
 DeletesSlot old new PlannedFault = IsSome (slot_due old) × OnlyCounts old new
 DeletesSlot old new Full = IsNone (slot_due old) × (old.losses ≡ 2 ^ 64 - 1) × OnlyCounts old new
+
+-- after a crash that kept so many bytes more than were durable; the counts go on
+abbrev pub cut_slot : ℕ → Slot → Slot
+cut_slot pick slot = record slot { state = cut_state pick slot.state }
+
+-- the same of an entry, whatever its name
+pub record IsCut (pick : ℕ) (old new : Entry) : Type 0 where
+  pub image : (object : ObjectId) → IsCrashImage (entry_slot object old).state (entry_slot object new).state
+  pub cut : (object : ObjectId) → entry_slot object new ≡ cut_slot pick (entry_slot object old)
+
+-- both are there and related, or neither is there
+abbrev pub Related : {X : Type 0} → (X → X → Type 0) → Option X → Option X → Type 0
+Related R None new = new ≡ None
+Related R (Some old) None = ⊥
+Related R (Some old) (Some new) = R old new
 
 -- the object has what the file had
 pub record IsBackAs (old new : Slot) (file : FileState) : Type 0 where

@@ -7,7 +7,7 @@ use Rattle.append_store.specs.Calls.{object_cmp}
 use Rattle.append_store.specs.State.{Missing}
 use Rattle.append_store.specs.File.{FileState}
 use Rattle.std.specs.BTreeMap.{get}
-use Rattle.append_store.specs.Slots.{Slot, slot_due, slot_of, OnlyCounts, CountsCreate, IsDeleted}
+use Rattle.append_store.specs.Slots.{Slot, slot_due, slot_of, OnlyCounts, CountsCreate, IsDeleted, cut_slot}
 use Rattle.append_store.specs.declared.mem_cluster.MemCluster.{MemCluster}
 use Rattle.append_store.specs.declared.mem_file.Planned.{Planned}
 use Rattle.append_store.specs.declared.store.CreateFault.{CreateFault}
@@ -103,6 +103,20 @@ pub record ListsAsPlanned {T : Type 0} (old new : StoreState) (result : Result T
   pub calls : new.calls ≡ raised old.calls
   pub planned : new.planned ≡ count_after old.planned (store_due old)
   pub outcome : ListOutcome (store_due old) old.starved new.starved result
+
+-- a slot after a reopening that kept so many bytes more than were durable, or failed
+abbrev pub reopened_slot : ℕ → Bool → Slot → Slot
+reopened_slot pick true slot = slot
+reopened_slot pick false slot = cut_slot pick slot
+
+-- a reopening fails exactly where it is named, and changes nothing but the counts then
+pub record ReopensAsPlanned {T E : Type 0} (old new : StoreState) (pick : ℕ) (result : Result T E) : Type 0 where
+  pub failing : new.failing ≡ old.failing
+  pub calls : new.calls ≡ raised old.calls
+  pub failed : is_err result ≡ store_due old
+  pub planned : new.planned ≡ count_after old.planned (is_err result)
+  pub starved : new.starved ≡ old.starved
+  pub slots : (q : ObjectId) → new.slots q ≡ reopened_slot pick (is_err result) (old.slots q)
 
 -- the file's two numbers are added
 pub record AddsFaults (old new : StoreState) (file : FileState) : Type 0 where

@@ -40,6 +40,10 @@ impl<C: Cluster> Cluster for &mut C {
         (**self).delete(object)
     }
 
+    fn reopen(&mut self, pick: u64) -> Result<(), StoreFault> {
+        (**self).reopen(pick)
+    }
+
     fn faults(&self) -> u64 {
         (**self).faults()
     }

@@ -5,15 +5,15 @@ ghost use Rattle.std.specs.Option.{option_copied};
 ghost use Rattle.gw_model.specs.declared.object.ObjectId.{ObjectId};
 ghost use Rattle.append_store.specs.declared.mem_file.Planned.{Planned};
 ghost use Rattle.gw_outside.specs.Causes.{HasCause, Rose, Carries};
-ghost use Rattle.append_store.specs.State.{IsAway, IsThere, Kept, Missing, Lent, bytes_of, content_in};
+ghost use Rattle.append_store.specs.State.{IsAway, IsCrashImage, IsThere, Kept, Missing, Lent, bytes_of, content_in};
 ghost use Rattle.append_store.specs.Calls.{Creates, MayCreate, Guards, IsRising, Lists, object_cmp, part_at};
 ghost use Rattle.append_store.specs.Plan.{is_of, names_store_call, plan_for};
 ghost use Rattle.append_store.specs.File.{file_count, shown};
-ghost use Rattle.append_store.specs.Slots.{CreatesSlot, IsTakenOf, IsBackAs, listed, slot_of};
-ghost use Rattle.append_store.specs.Store.{IsNew, CreatesAsPlanned, TakesAsPlanned, ReadsClosedAsPlanned, DeletesAsPlanned, ListsAsPlanned, AddsFaults, slot_at, store_count, store_of};
+ghost use Rattle.append_store.specs.Slots.{CreatesSlot, IsCut, IsTakenOf, IsBackAs, Related, cut_slot, listed, slot_of};
+ghost use Rattle.append_store.specs.Store.{IsNew, CreatesAsPlanned, TakesAsPlanned, ReadsClosedAsPlanned, DeletesAsPlanned, ListsAsPlanned, ReopensAsPlanned, AddsFaults, slot_at, store_count, store_of};
 
 use crate::slots::{
-    Deletion, Entry, Spot, bytes_at, create_at, delete_at, give_at, read_at, take_at,
+    Deletion, Entry, Spot, bytes_at, create_at, cut_at, delete_at, give_at, read_at, take_at,
 };
 use crate::{Cluster, CreateFault, ListFault, MemFile, Planned, StoreFault};
 use gw_model::{KeptObject, ObjectId};
@@ -22,8 +22,9 @@ use std::collections::BTreeMap;
 
 /// A store in memory. The calls that are planned to fail do so: of each object `create`,
 /// `take_file`, `read_closed`, `delete` and the file's `append`, `hsync` and `read_at` are counted,
-/// from 1, and a deletion doesn't begin anew. A `create` of an object that is out isn't counted, and
-/// neither is one that finds no memory. `list` is counted by itself, with no object. A foreign file is let go.
+/// from 1, and over deletions and crashes. A `create` of an object that is out isn't counted, and
+/// neither is one that finds no memory. `list` and `reopen` are counted
+/// together, with no object. A foreign file is let go.
 #[derive(Drop)]
 pub struct MemCluster {
     alloc: Global,
@@ -100,6 +101,24 @@ fn list_in(
 {
     let all = listing(alloc, entries)?;
     Ok(all)
+}
+
+// Cuts each object as a crash does.
+fn cut_each(entries: &mut BTreeMap<ObjectId, Entry>, pick: u64)
+    ensures { (q : ObjectId) → Related (IsCut pick) (get object_cmp entries.old q) (get object_cmp entries.new q) }
+{
+    entries.retain(|_, entry| {
+        cut_at(entry, pick);
+        true
+    });
+}
+
+// Makes the store what it may be after a crash.
+fn cut_all(entries: &mut BTreeMap<ObjectId, Entry>, pick: u64)
+    ensures image { (failing : List Planned) (q : ObjectId) → IsCrashImage (slot_of failing q (get object_cmp entries.old q)).state (slot_of failing q (get object_cmp entries.new q)).state }
+    ensures cut { (failing : List Planned) (q : ObjectId) → slot_of failing q (get object_cmp entries.new q) ≡ cut_slot pick (slot_of failing q (get object_cmp entries.old q)) }
+{
+    cut_each(entries, pick);
 }
 
 // Makes an object of no bytes where nothing is, and an entry where the name was never used; false
@@ -316,6 +335,24 @@ impl Cluster for MemCluster {
             },
             None => unreachable!(),
         }
+    }
+
+    /// Keeps of each object the lesser of its length and `pick` bytes more than were durable.
+    fn reopen(&mut self, pick: u64) -> Result<(), StoreFault>
+        requires { (q : ObjectId) → IsAway (slot_at self.old q).state → ⊥ }
+        ensures done { OnOk result ((q : ObjectId) → IsCrashImage (slot_at self.old q).state (slot_at self.new q).state) }
+        ensures failed { OnErr result ((q : ObjectId) → slot_at self.new q ≡ slot_at self.old q) }
+        ensures no_losses { (q : ObjectId) → (slot_at self.new q).losses ≡ (slot_at self.old q).losses }
+        ensures cause { HasCause (store_count (store_of self.old)) (store_count (store_of self.new)) result }
+        ensures planned { ReopensAsPlanned (store_of self.old) (store_of self.new) pick result }
+    {
+        self.calls = self.calls.saturating_add(1);
+        if names_call(&self.failing, self.calls) {
+            self.planned = self.planned.saturating_add(1);
+            return Err(StoreFault);
+        }
+        cut_all(&mut self.entries, pick);
+        Ok(())
     }
 
     fn faults(&self) -> u64 {

@@ -5,7 +5,7 @@ ghost use Rattle.gw_model.specs.declared.object.ObjectId.{ObjectId};
 ghost use Rattle.append_store.specs.State.{IsThere, Lent, bytes_of, content_in};
 ghost use Rattle.append_store.specs.Calls.{part_at};
 ghost use Rattle.append_store.specs.File.{shown};
-ghost use Rattle.append_store.specs.Slots.{CreatesSlot, DeletesSlot, IsTakenOf, IsOut, OnlyCounts, IsBackAs, entry_slot, slot_due};
+ghost use Rattle.append_store.specs.Slots.{CreatesSlot, IsCut, DeletesSlot, IsTakenOf, IsOut, OnlyCounts, IsBackAs, entry_slot, slot_due};
 
 use crate::mem_file::copy_part;
 use crate::MemFile;
@@ -134,6 +134,15 @@ pub(crate) fn delete_at(object: ObjectId, entry: &mut Entry) -> Deletion
             Deletion::Done
         }
         _ => unreachable!(),
+    }
+}
+
+// Cuts an object as a crash does.
+pub(crate) fn cut_at(entry: &mut Entry, pick: u64)
+    ensures { IsCut pick entry.old entry.new }
+{
+    if let Spot::Here(file) = &mut entry.spot {
+        file.cut(pick);
     }
 }
 

@@ -2,7 +2,7 @@
 ghost use Rattle.std.specs.Prelude.{◌≡◌, ◌≢◌, ◌⊎◌, ◌++◌, ◌-◌, ◌<◌, ◌≤◌, List, ℕ, length, min, take, drop, IfOk, IfErr, OnOk, OnErr, IsErrOf};
 ghost use Rattle.gw_outside.specs.Causes.{HasCause, Rose, Carries};
 ghost use Rattle.gw_model.specs.declared.object.ObjectId.{ObjectId};
-ghost use Rattle.append_store.specs.State.{ObjectState, Missing, Kept, Lent, IsAway, IsThere, bytes_of};
+ghost use Rattle.append_store.specs.State.{ObjectState, Missing, Kept, Lent, IsAway, IsCrashImage, IsThere, bytes_of};
 ghost use Rattle.append_store.specs.Calls.{Creates, MayCreate, Guards, IsRising, Lists, added, part_at};
 
 use gw_model::{KeptObject, ObjectId};
@@ -182,6 +182,16 @@ pub trait Cluster: Drop {
         ensures others { Self.File.tells → (q : ObjectId) → q ≢ object → at self.new q ≡ at self.old q }
         ensures losses { Self.File.tells → Guards (at self.old object) (at self.new object) (losses self.old object) (losses self.new object) }
         ensures no_losses { Self.File.tells → (q : ObjectId) → q ≢ object → losses self.new q ≡ losses self.old q }
+        ensures cause { HasCause (count self.old) (count self.new) result };
+
+    /// Makes the store what it may be after a crash: each object keeps a prefix that has at least
+    /// what was durable, and all of it is durable then. `pick` says which of the crashes, where the
+    /// store has a choice. No object may be out. A call that failed may have cut some objects so.
+    fn reopen(&mut self, pick: u64) -> Result<(), StoreFault>
+        requires { Self.File.tells → (q : ObjectId) → IsAway (at self.old q) → ⊥ }
+        ensures done { OnOk result (Self.File.tells → (q : ObjectId) → IsCrashImage (at self.old q) (at self.new q)) }
+        ensures failed { OnErr result (Self.File.tells → (q : ObjectId) → (at self.new q ≡ at self.old q) ⊎ IsCrashImage (at self.old q) (at self.new q)) }
+        ensures no_losses { Self.File.tells → (q : ObjectId) → losses self.new q ≡ losses self.old q }
         ensures cause { HasCause (count self.old) (count self.new) result };
 
     /// How often the store has failed, with the failures of the files that were given back. The
