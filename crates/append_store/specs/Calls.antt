@@ -1,6 +1,12 @@
 -- What the calls of a store do to one object.
-use Rattle.std.specs.Prelude.{◌≡◌, ◌⊎◌, ℕ, ◌≤◌, List, [], take, drop, Result, Ok, Err}
-use Rattle.append_store.specs.State.{ObjectState, Missing, Kept, Lent, durable_of}
+use Rattle.std.specs.Prelude.{◌≡◌, ◌⊎◌, ℕ, ◌≤◌, List, [], ◌∷◌, length, map, take, drop, Result, Ok, Err}
+use Rattle.std.specs.List.{AllByRecursion}
+use Rattle.std.specs.List.Sorted.{IsStrictlySortedBy}
+use Rattle.std.specs.declared.cmp.Ordering.{Ordering}
+use Rattle.gw_model.specs.declared.object.KeptObject.{KeptObject}
+use Rattle.gw_model.specs.declared.object.ObjectId.{ObjectId}
+use Rattle.gw_model.specs.contracts.object.ObjectIdOrd.TheImpl as object_order
+use Rattle.append_store.specs.State.{ObjectState, Missing, Kept, Lent, IsThere, durable_of}
 use Rattle.append_store.specs.declared.store.AppendFault.{AppendFault}
 
 -- an object that is there stays as it is, and one that isn't comes to be, empty
@@ -25,3 +31,27 @@ added (Err e) n = e.kept
 -- so many of these bytes, from an offset on
 abbrev pub part_at : List ℕ → ℕ → ℕ → List ℕ
 part_at bytes offset n = take n (drop offset bytes)
+
+-- the order of the names: logs first, then by numbers
+abbrev pub object_cmp : ObjectId → ObjectId → Ordering
+object_cmp = (object_order.ghosts).cmp
+
+-- in strictly rising order of the names
+abbrev pub IsRising : List KeptObject → Type 0
+IsRising all = IsStrictlySortedBy object_cmp (map (λ k. k.object) all)
+
+-- an object that isn't out is there, and has so many bytes
+abbrev pub HasLength : ObjectState → ℕ → Type 0
+HasLength Missing n = ⊥
+HasLength (Kept bytes durable) n = length bytes ≡ n
+HasLength (Lent mark) n = ⊥
+
+-- an object of this name is in the list
+abbrev pub Has : List KeptObject → ObjectId → Type 0
+Has [] q = ⊥
+Has (k ∷ ks) q = (k.object ≡ q) ⊎ Has ks q
+
+-- each object of the list is there with its length, and each that is there is in the list
+pub record Lists (at : ObjectId → ObjectState) (all : List KeptObject) : Type 0 where
+  pub sound : AllByRecursion (λ k. HasLength (at k.object) k.length) all
+  pub complete : (q : ObjectId) → IsThere (at q) → Has all q

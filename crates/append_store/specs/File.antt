@@ -1,8 +1,9 @@
 -- A file in memory, as contracts see it, and what its calls do.
-use Rattle.std.specs.Prelude.{◌≡◌, ◌⊎◌, ◌+◌, ◌-◌, ◌^◌, min, ℕ, Bool, true, false, List, [], length, Option, Some, None, is_some, is_err, Result, Ok, Err}
+use Rattle.std.specs.Prelude.{◌≡◌, ◌⊎◌, ◌+◌, ◌-◌, ◌^◌, min, ℕ, Bool, true, false, List, [], length, take, Option, Some, None, is_some, is_err, Result, Ok, Err}
 use Rattle.gw_model.specs.declared.object.ObjectId.{ObjectId}
 use Rattle.gw_outside.specs.Causes.{raised, count_after}
 use Rattle.append_store.specs.Plan.{due_of}
+use Rattle.append_store.specs.State.{kept_length}
 use Rattle.append_store.specs.declared.mem_file.MemFile.{MemFile}
 use Rattle.append_store.specs.declared.mem_file.Planned.{Planned}
 use Rattle.append_store.specs.declared.store.AppendFault.{AppendFault}
@@ -96,3 +97,7 @@ pub record IsHandedOut (old new : FileState) (name : ObjectId) : Type 0 where
   pub calls : new.calls ≡ old.calls
   pub planned : new.planned ≡ 0
   pub starved : new.starved ≡ 0
+
+-- the file after a crash that kept so many bytes more than were durable
+abbrev pub cut_file : ℕ → FileState → FileState
+cut_file pick f = record f { content = take (kept_length pick (length f.content) f.durable) f.content; durable = kept_length pick (length f.content) f.durable }

@@ -1,5 +1,5 @@
 -- The calls that are to fail.
-use Rattle.std.specs.Prelude.{ℕ, ◌==◌, ◌&&◌, Bool, false, List, [], ◌∷◌, filter, Option, Some, None, if◌then◌else◌}
+use Rattle.std.specs.Prelude.{ℕ, ◌==◌, ◌&&◌, ◌||◌, is_none, Bool, false, List, [], ◌∷◌, filter, Option, Some, None, if◌then◌else◌}
 use Rattle.gw_model.specs.declared.object.ObjectId.{ObjectId}
 use Rattle.gw_model.specs.declared.object.ObjectId.TheVariants.{Log, Body}
 use Rattle.append_store.specs.declared.mem_file.Planned.{Planned}
@@ -23,3 +23,8 @@ plan_for object entries = filter (λ p. is_of object p.object) entries
 unfoldable pub due_of : List Planned → ℕ → Option ℕ
 due_of [] call = None
 due_of (p ∷ ps) call = if p.call == call then Some p.kept else due_of ps call
+
+-- an entry without an object names this call: one on the store as a whole
+unfoldable pub names_store_call : List Planned → ℕ → Bool
+names_store_call [] call = false
+names_store_call (p ∷ ps) call = (is_none p.object && p.call == call) || names_store_call ps call

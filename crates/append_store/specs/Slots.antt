@@ -1,12 +1,15 @@
 -- What a store in memory has under a name, and what one call does there.
-use Rattle.std.specs.Prelude.{◌≡◌, ℕ, Bool, true, false, is_none, List, [], Option, Some, None}
+use Rattle.std.specs.Prelude.{◌≡◌, ◌+◌, ◌-◌, ◌^◌, ℕ, Bool, true, false, is_none, IsNone, IsSome, List, [], ◌∷◌, length, Option, Some, None}
+use Rattle.gw_model.specs.declared.object.KeptObject.{KeptObject}
 use Rattle.gw_model.specs.declared.object.ObjectId.{ObjectId}
 use Rattle.gw_outside.specs.Causes.{raised}
 use Rattle.append_store.specs.Plan.{plan_for, due_of}
 use Rattle.append_store.specs.Calls.{Creates}
-use Rattle.append_store.specs.State.{ObjectState, Missing, Kept, Lent}
+use Rattle.append_store.specs.State.{ObjectState, Missing, Kept, Lent, IsCrashImage, cut_state}
 use Rattle.append_store.specs.File.{FileState}
 use Rattle.append_store.specs.declared.mem_file.Planned.{Planned}
+use Rattle.append_store.specs.declared.slots.Deletion.{Deletion}
+use Rattle.append_store.specs.declared.slots.Deletion.TheVariants.{Done, Planned as PlannedFault, Full}
 use Rattle.append_store.specs.declared.slots.Entry.{Entry}
 use Rattle.append_store.specs.declared.slots.Spot.{Spot}
 use Rattle.append_store.specs.declared.slots.Spot.TheVariants.{Gone, Here, Out}
@@ -31,6 +34,17 @@ entry_slot object entry = spot_slot object entry.spot entry.losses
 abbrev pub slot_of : List Planned → ObjectId → Option Entry → Slot
 slot_of failing object None = record { state = Missing; losses = 0; calls = 0; plan = plan_for object failing }
 slot_of failing object (Some entry) = entry_slot object entry
+
+-- an object that is there, with its length
+abbrev pub listed_one : ObjectId → Spot → List KeptObject → List KeptObject
+listed_one object (Gone f) rest = rest
+listed_one object (Here f) rest = record { object = object; length = length f.bytes.items } ∷ rest
+listed_one object Out rest = rest
+
+-- the entries that are there, with their lengths, in order
+abbrev pub listed : List (ObjectId × Entry) → List KeptObject
+listed [] = []
+listed (e ∷ es) = listed_one e.0 e.1.spot (listed es)
 
 -- a create is counted, but of an object that is out
 abbrev pub calls_after_create : ObjectState → ℕ → ℕ
@@ -68,11 +82,39 @@ pub record IsOut (old new : Slot) (name : ObjectId) : Type 0 where
   pub losses : new.losses ≡ old.losses
 
 -- the call was counted, and nothing else changed
-pub record FailsToTake (old new : Slot) : Type 0 where
+pub record OnlyCounts (old new : Slot) : Type 0 where
   pub state : new.state ≡ old.state
   pub losses : new.losses ≡ old.losses
   pub calls : new.calls ≡ raised old.calls
   pub plan : new.plan ≡ old.plan
+
+-- the object is gone, which is a loss, and the call was counted
+pub record IsDeleted (old new : Slot) : Type 0 where
+  pub state : new.state ≡ Missing
+  pub losses : new.losses ≡ old.losses + 1
+  pub calls : new.calls ≡ raised old.calls
+  pub plan : new.plan ≡ old.plan
+
+-- a deletion is done where its call isn't named, unless the losses stand at the greatest u64
+abbrev pub DeletesSlot : Slot → Slot → Deletion → Type 0
+DeletesSlot old new Done = IsNone (slot_due old) × IsDeleted old new
+DeletesSlot old new PlannedFault = IsSome (slot_due old) × OnlyCounts old new
+DeletesSlot old new Full = IsNone (slot_due old) × (old.losses ≡ 2 ^ 64 - 1) × OnlyCounts old new
+
+-- after a crash that kept so many bytes more than were durable; the counts go on
+abbrev pub cut_slot : ℕ → Slot → Slot
+cut_slot pick slot = record slot { state = cut_state pick slot.state }
+
+-- the same of an entry, whatever its name
+pub record IsCut (pick : ℕ) (old new : Entry) : Type 0 where
+  pub image : (object : ObjectId) → IsCrashImage (entry_slot object old).state (entry_slot object new).state
+  pub cut : (object : ObjectId) → entry_slot object new ≡ cut_slot pick (entry_slot object old)
+
+-- both are there and related, or neither is there
+abbrev pub Related : {X : Type 0} → (X → X → Type 0) → Option X → Option X → Type 0
+Related R None new = new ≡ None
+Related R (Some old) None = ⊥
+Related R (Some old) (Some new) = R old new
 
 -- the object has what the file had
 pub record IsBackAs (old new : Slot) (file : FileState) : Type 0 where

@@ -1,5 +1,5 @@
 -- What a store has under a name.
-use Rattle.std.specs.Prelude.{◌≡◌, ℕ, ◌≤◌, List, [], length, take, Option, Some, None}
+use Rattle.std.specs.Prelude.{◌≡◌, ℕ, ◌≤◌, ◌+◌, min, List, [], length, take, Option, Some, None}
 use Rattle.std.specs.Coded.{Unit-prop}
 use Rattle.gw_model.specs.declared.object.ObjectId.{ObjectId}
 
@@ -52,3 +52,13 @@ abbrev pub IsCrashImage : ObjectState → ObjectState → Type 0
 IsCrashImage Missing new = new ≡ Missing
 IsCrashImage (Kept bytes durable) new = (n : ℕ) × (durable ≤ n) × (n ≤ length bytes) × (new ≡ Kept (take n bytes) n)
 IsCrashImage (Lent mark) new = new ≡ Lent mark
+
+-- how many bytes are kept of so many, of which so many are durable: these and so many more
+abbrev pub kept_length : ℕ → ℕ → ℕ → ℕ
+kept_length pick size durable = min size (durable + pick)
+
+-- the crash image that has so many bytes more than were durable, as far as there are any
+abbrev pub cut_state : ℕ → ObjectState → ObjectState
+cut_state pick Missing = Missing
+cut_state pick (Kept bytes durable) = Kept (take (kept_length pick (length bytes) durable) bytes) (kept_length pick (length bytes) durable)
+cut_state pick (Lent mark) = Lent mark

@@ -10,7 +10,7 @@ mod store;
 
 pub use mem_cluster::MemCluster;
 pub use mem_file::{MemFile, Planned};
-pub use store::{AppendFault, AppendFile, Cluster, CreateFault, StoreFault};
+pub use store::{AppendFault, AppendFile, Cluster, CreateFault, ListFault, StoreFault};
 
 #[cfg(test)]
 mod tests;

@@ -1,30 +1,36 @@
 // A store in memory, which fails at the calls that it is told to fail at.
-ghost use Rattle.std.specs.Prelude.{◌≡◌, ◌≢◌, ◌⊎◌, ◌≤◌, ◌<◌, OnOk, OnErr, IfOk, IsErrOf, None};
-ghost use Rattle.std.specs.BTreeMap.{get};
+ghost use Rattle.std.specs.Prelude.{◌≡◌, ◌≢◌, ◌⊎◌, ◌++◌, ◌-◌, ◌≤◌, ◌<◌, List, min, length, drop, OnOk, OnErr, IfOk, IsErrOf, None};
+ghost use Rattle.std.specs.BTreeMap.{get, IsOrdered};
 ghost use Rattle.std.specs.Option.{option_copied};
 ghost use Rattle.gw_model.specs.declared.object.ObjectId.{ObjectId};
+ghost use Rattle.append_store.specs.declared.mem_file.Planned.{Planned};
 ghost use Rattle.gw_outside.specs.Causes.{HasCause, Rose, Carries};
-ghost use Rattle.append_store.specs.State.{IsThere, Kept, Missing, Lent, content_in};
-ghost use Rattle.append_store.specs.Calls.{Creates, MayCreate, Guards};
-ghost use Rattle.append_store.specs.Plan.{is_of, plan_for};
+ghost use Rattle.append_store.specs.State.{IsAway, IsCrashImage, IsThere, Kept, Missing, Lent, bytes_of, content_in};
+ghost use Rattle.append_store.specs.Calls.{Creates, MayCreate, Guards, IsRising, Lists, object_cmp, part_at};
+ghost use Rattle.append_store.specs.Plan.{is_of, names_store_call, plan_for};
 ghost use Rattle.append_store.specs.File.{file_count, shown};
-ghost use Rattle.append_store.specs.Slots.{CreatesSlot, IsTakenOf, IsBackAs, slot_of};
-ghost use Rattle.append_store.specs.Store.{IsNew, CreatesAsPlanned, TakesAsPlanned, AddsFaults, object_cmp, slot_at, store_count, store_of};
+ghost use Rattle.append_store.specs.Slots.{CreatesSlot, IsCut, IsTakenOf, IsBackAs, Related, cut_slot, listed, slot_of};
+ghost use Rattle.append_store.specs.Store.{IsNew, CreatesAsPlanned, TakesAsPlanned, ReadsClosedAsPlanned, DeletesAsPlanned, ListsAsPlanned, ReopensAsPlanned, AddsFaults, slot_at, store_count, store_of};
 
-use crate::slots::{Entry, Spot, bytes_at, create_at, give_at, take_at};
-use crate::{Cluster, CreateFault, MemFile, Planned, StoreFault};
-use gw_model::ObjectId;
+use crate::slots::{
+    Deletion, Entry, Spot, bytes_at, create_at, cut_at, delete_at, give_at, read_at, take_at,
+};
+use crate::{Cluster, CreateFault, ListFault, MemFile, Planned, StoreFault};
+use gw_model::{KeptObject, ObjectId};
 use std::alloc::{AllocError, Global};
 use std::collections::BTreeMap;
 
 /// A store in memory. The calls that are planned to fail do so: of each object `create`,
-/// `take_file` and the file's `append`, `hsync` and `read_at` are counted, from 1. A `create` of an object that is out
-/// isn't counted, and neither is one that finds no memory. A foreign file is let go.
+/// `take_file`, `read_closed`, `delete` and the file's `append`, `hsync` and `read_at` are counted,
+/// from 1, and over deletions and crashes. A `create` of an object that is out isn't counted, and
+/// neither is one that finds no memory. `list` and `reopen` are counted
+/// together, with no object. A foreign file is let go.
 #[derive(Drop)]
 pub struct MemCluster {
     alloc: Global,
     entries: BTreeMap<ObjectId, Entry>,
     failing: Vec<Planned>,
+    calls: u64,
     planned: u64,
     starved: u64,
 }
@@ -48,6 +54,71 @@ fn plan_of(alloc: Global, failing: &[Planned], object: ObjectId) -> Result<Vec<P
         }
     }
     Ok(plan)
+}
+
+// Whether the plan names this call on the store as a whole.
+#[tactic(auto, unfolding(crate::specs::Plan::names_store_call))]
+fn names_call(failing: &[Planned], call: u64) -> bool
+    ensures { result ≡ names_store_call failing.now call }
+{
+    for entry in failing {
+        if entry.object.is_none() && entry.call == call {
+            return true;
+        }
+    }
+    false
+}
+
+// The entries that are there, with their lengths.
+fn listing(
+    alloc: Global,
+    entries: &BTreeMap<ObjectId, Entry>,
+) -> Result<Vec<KeptObject>, AllocError>
+    ensures items { IfOk result (λ all. all.items ≡ listed entries.now.entries) }
+    ensures ordered { IsOrdered object_cmp entries.now }
+{
+    let _ = entries.len();
+    let mut all = Vec::new(alloc);
+    for (object, entry) in entries {
+        if let Spot::Here(file) = &entry.spot {
+            let length = file.length();
+            all.push(KeptObject {
+                object: *object,
+                length,
+            })?;
+        }
+    }
+    Ok(all)
+}
+
+// What is there, in the order of the names.
+fn list_in(
+    alloc: Global,
+    entries: &BTreeMap<ObjectId, Entry>,
+) -> Result<Vec<KeptObject>, AllocError>
+    ensures listed { (failing : List Planned) → IfOk result (λ all. Lists (λ q. (slot_of failing q (get object_cmp entries.now q)).state) all.items) }
+    ensures rising { IfOk result (λ all. IsRising all.items) }
+{
+    let all = listing(alloc, entries)?;
+    Ok(all)
+}
+
+// Cuts each object as a crash does.
+fn cut_each(entries: &mut BTreeMap<ObjectId, Entry>, pick: u64)
+    ensures { (q : ObjectId) → Related (IsCut pick) (get object_cmp entries.old q) (get object_cmp entries.new q) }
+{
+    entries.retain(|_, entry| {
+        cut_at(entry, pick);
+        true
+    });
+}
+
+// Makes the store what it may be after a crash.
+fn cut_all(entries: &mut BTreeMap<ObjectId, Entry>, pick: u64)
+    ensures image { (failing : List Planned) (q : ObjectId) → IsCrashImage (slot_of failing q (get object_cmp entries.old q)).state (slot_of failing q (get object_cmp entries.new q)).state }
+    ensures cut { (failing : List Planned) (q : ObjectId) → slot_of failing q (get object_cmp entries.new q) ≡ cut_slot pick (slot_of failing q (get object_cmp entries.old q)) }
+{
+    cut_each(entries, pick);
 }
 
 // Makes an object of no bytes where nothing is, and an entry where the name was never used; false
@@ -83,6 +154,7 @@ impl MemCluster {
             alloc,
             entries: BTreeMap::new(alloc),
             failing,
+            calls: 0,
             planned: 0,
             starved: 0,
         }
@@ -119,6 +191,30 @@ impl Cluster for MemCluster {
     ghost losses = { λ c q. (slot_at c q).losses };
 
     ghost count = { λ c. store_count (store_of c) };
+
+    fn list(&mut self) -> Result<Vec<KeptObject>, ListFault>
+        requires { (q : ObjectId) → IsAway (slot_at self.old q).state → ⊥ }
+        ensures listed { IfOk result (λ all. Lists (λ q. (slot_at self.old q).state) all.items) }
+        ensures rising { IfOk result (λ all. IsRising all.items) }
+        ensures same { (q : ObjectId) → slot_at self.new q ≡ slot_at self.old q }
+        ensures no_losses { (q : ObjectId) → (slot_at self.new q).losses ≡ (slot_at self.old q).losses }
+        ensures later { store_count (store_of self.old) ≤ store_count (store_of self.new) }
+        ensures cause { IsErrOf result ListFault.Fault → Rose (store_count (store_of self.old)) (store_count (store_of self.new)) }
+        ensures planned { ListsAsPlanned (store_of self.old) (store_of self.new) result }
+    {
+        self.calls = self.calls.saturating_add(1);
+        if names_call(&self.failing, self.calls) {
+            self.planned = self.planned.saturating_add(1);
+            return Err(ListFault::Fault);
+        }
+        match list_in(self.alloc, &self.entries) {
+            Ok(all) => Ok(all),
+            Err(_) => {
+                self.starved = self.starved.saturating_add(1);
+                Err(ListFault::Memory)
+            }
+        }
+    }
 
     fn create(&mut self, object: ObjectId) -> Result<(), CreateFault>
         ensures done { OnOk result (Creates (slot_at self.old object).state (slot_at self.new object).state) }
@@ -185,6 +281,78 @@ impl Cluster for MemCluster {
         if let Some(entry) = self.entries.get_mut(&object) {
             give_at(object, entry, file);
         }
+    }
+
+    fn read_closed(
+        &mut self,
+        object: ObjectId,
+        offset: u64,
+        out: &mut [u8],
+    ) -> Result<usize, StoreFault>
+        requires { IsThere (slot_at self.old object).state }
+        ensures bound { IfOk result (λ n. n ≤ length out.old) }
+        ensures length { IfOk result (λ n. n ≡ min (length out.old) (length (bytes_of (slot_at self.old object).state) - offset)) }
+        ensures bytes { IfOk result (λ n. out.new ≡ part_at (bytes_of (slot_at self.old object).state) offset n ++ drop n out.old) }
+        ensures same { (q : ObjectId) → (slot_at self.new q).state ≡ (slot_at self.old q).state }
+        ensures others { (q : ObjectId) → q ≢ object → slot_at self.new q ≡ slot_at self.old q }
+        ensures no_losses { (q : ObjectId) → (slot_at self.new q).losses ≡ (slot_at self.old q).losses }
+        ensures cause { HasCause (store_count (store_of self.old)) (store_count (store_of self.new)) result }
+        ensures planned { ReadsClosedAsPlanned (store_of self.old) (store_of self.new) object result }
+    {
+        match self.entries.get_mut(&object) {
+            Some(entry) => {
+                if let Some(many) = read_at(object, entry, offset, out) {
+                    return Ok(many);
+                }
+                self.planned = self.planned.saturating_add(1);
+                Err(StoreFault)
+            }
+            None => unreachable!(),
+        }
+    }
+
+    fn delete(&mut self, object: ObjectId) -> Result<(), StoreFault>
+        requires { IsThere (slot_at self.old object).state }
+        ensures done { OnOk result ((slot_at self.new object).state ≡ Missing) }
+        ensures failed { OnErr result ((slot_at self.new object).state ≡ (slot_at self.old object).state) }
+        ensures others { (q : ObjectId) → q ≢ object → slot_at self.new q ≡ slot_at self.old q }
+        ensures losses { Guards (slot_at self.old object).state (slot_at self.new object).state (slot_at self.old object).losses (slot_at self.new object).losses }
+        ensures no_losses { (q : ObjectId) → q ≢ object → (slot_at self.new q).losses ≡ (slot_at self.old q).losses }
+        ensures cause { HasCause (store_count (store_of self.old)) (store_count (store_of self.new)) result }
+        ensures planned { DeletesAsPlanned (store_of self.old) (store_of self.new) object result }
+    {
+        match self.entries.get_mut(&object) {
+            Some(entry) => match delete_at(object, entry) {
+                Deletion::Done => Ok(()),
+                Deletion::Planned => {
+                    self.planned = self.planned.saturating_add(1);
+                    Err(StoreFault)
+                }
+                Deletion::Full => {
+                    self.starved = self.starved.saturating_add(1);
+                    Err(StoreFault)
+                }
+            },
+            None => unreachable!(),
+        }
+    }
+
+    /// Keeps of each object the lesser of its length and `pick` bytes more than were durable.
+    fn reopen(&mut self, pick: u64) -> Result<(), StoreFault>
+        requires { (q : ObjectId) → IsAway (slot_at self.old q).state → ⊥ }
+        ensures done { OnOk result ((q : ObjectId) → IsCrashImage (slot_at self.old q).state (slot_at self.new q).state) }
+        ensures failed { OnErr result ((q : ObjectId) → slot_at self.new q ≡ slot_at self.old q) }
+        ensures no_losses { (q : ObjectId) → (slot_at self.new q).losses ≡ (slot_at self.old q).losses }
+        ensures cause { HasCause (store_count (store_of self.old)) (store_count (store_of self.new)) result }
+        ensures planned { ReopensAsPlanned (store_of self.old) (store_of self.new) pick result }
+    {
+        self.calls = self.calls.saturating_add(1);
+        if names_call(&self.failing, self.calls) {
+            self.planned = self.planned.saturating_add(1);
+            return Err(StoreFault);
+        }
+        cut_all(&mut self.entries, pick);
+        Ok(())
     }
 
     fn faults(&self) -> u64 {

@@ -19,8 +19,8 @@ pub struct Planned {
 }
 
 /// A file in memory. The calls of its object that are planned to fail do so: `create`,
-/// `take_file`, `append`, `hsync` and `read_at` are counted, from 1, and the numbers go on from one
-/// taking to the next.
+/// `take_file`, `append`, `hsync`, `read_at`, `read_closed` and `delete` are counted, from 1, and
+/// the numbers go on from one taking to the next, and over a deletion and a crash.
 #[derive(Drop)]
 pub struct MemFile {
     object: ObjectId,
@@ -128,7 +128,7 @@ fn first_due(plan: &[Planned], call: u64) -> Option<u64>
 }
 
 // Copies what lies from an offset on into the front of a slice, as far as there is room.
-fn copy_part(bytes: &[u8], offset: u64, out: &mut [u8]) -> usize
+pub(crate) fn copy_part(bytes: &[u8], offset: u64, out: &mut [u8]) -> usize
     ensures many { result ≡ min (length out.old) (length bytes.now - offset) }
     ensures copied { out.new ≡ part_at bytes.now offset result ++ drop result out.old }
 {
@@ -141,7 +141,9 @@ fn copy_part(bytes: &[u8], offset: u64, out: &mut [u8]) -> usize
 }
 
 impl MemFile {
-    ghost use Rattle.append_store.specs.File.{IsFresh, IsDue, IsEmptied, IsHandedOut, shown};
+    ghost use Rattle.std.specs.Prelude.{length};
+    ghost use Rattle.append_store.specs.State.{IsCrashImage, Kept};
+    ghost use Rattle.append_store.specs.File.{cut_file, IsFresh, IsDue, IsEmptied, IsHandedOut, shown};
 
     // A file of no bytes, with the calls of this object that are to fail.
     pub(crate) fn empty(alloc: Global, object: ObjectId, plan: Vec<Planned>) -> Self
@@ -191,10 +193,28 @@ impl MemFile {
         self.starved
     }
 
+    pub(crate) fn length(&self) -> u64
+        ensures { result ≡ length (shown self.now).content }
+    {
+        self.bytes.len() as u64
+    }
+
     pub(crate) fn bytes(&self) -> &[u8]
         ensures { result.now ≡ (shown self.now).content }
     {
         &self.bytes
+    }
+
+    // Keeps what is durable and so many bytes more, and all of that is durable then.
+    pub(crate) fn cut(&mut self, pick: u64)
+        ensures image { IsCrashImage (Kept (shown self.old).content (shown self.old).durable) (Kept (shown self.new).content (shown self.new).durable) }
+        ensures cut { shown self.new ≡ cut_file pick (shown self.old) }
+    {
+        let most = self.durable.saturating_add(pick as usize);
+        let kept = self.bytes.len().min(most);
+        self.durable = 0;
+        self.bytes.truncate(kept);
+        self.durable = kept;
     }
 
     // The file with no bytes.

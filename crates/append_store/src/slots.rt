@@ -1,13 +1,13 @@
 // What a store in memory keeps under a name, and what one call does there.
-ghost use Rattle.std.specs.Prelude.{◌≡◌, ◌≢◌, IfSome, OnSome, IfNone, is_none, is_some};
+ghost use Rattle.std.specs.Prelude.{◌≡◌, ◌≢◌, ◌++◌, ◌-◌, min, length, drop, IfSome, OnSome, IfNone, is_none, is_some};
 ghost use Rattle.std.specs.Option.{option_copied};
 ghost use Rattle.gw_model.specs.declared.object.ObjectId.{ObjectId};
-ghost use Rattle.append_store.specs.State.{IsThere, Lent, content_in};
-ghost use Rattle.append_store.specs.Plan.{due_of};
+ghost use Rattle.append_store.specs.State.{IsThere, Lent, bytes_of, content_in};
+ghost use Rattle.append_store.specs.Calls.{part_at};
 ghost use Rattle.append_store.specs.File.{shown};
-ghost use Rattle.append_store.specs.Slots.{CreatesSlot, FailsToTake, IsOut, IsTakenOf, IsBackAs, entry_slot};
-ghost use Rattle.gw_outside.specs.Causes.{raised};
+ghost use Rattle.append_store.specs.Slots.{CreatesSlot, IsCut, DeletesSlot, IsTakenOf, IsOut, OnlyCounts, IsBackAs, entry_slot, slot_due};
 
+use crate::mem_file::copy_part;
 use crate::MemFile;
 use gw_model::ObjectId;
 use std::mem::replace;
@@ -55,8 +55,8 @@ pub(crate) fn take_at(object: ObjectId, entry: &mut Entry) -> Option<MemFile>
     requires { IsThere (entry_slot object entry.old).state }
     ensures taken { IfSome result (λ file. IsTakenOf (entry_slot object entry.old) object (shown file)) }
     ensures out { OnSome result (IsOut (entry_slot object entry.old) (entry_slot object entry.new) object) }
-    ensures failed { IfNone result (FailsToTake (entry_slot object entry.old) (entry_slot object entry.new)) }
-    ensures due { is_none result ≡ is_some (due_of (entry_slot object entry.old).plan (raised (entry_slot object entry.old).calls)) }
+    ensures failed { IfNone result (OnlyCounts (entry_slot object entry.old) (entry_slot object entry.new)) }
+    ensures due { is_none result ≡ is_some (slot_due (entry_slot object entry.old)) }
 {
     match replace(&mut entry.spot, Spot::Out) {
         Spot::Here(mut file) => {
@@ -79,6 +79,70 @@ pub(crate) fn give_at(object: ObjectId, entry: &mut Entry, file: MemFile)
         if let Spot::Out = entry.spot {
             entry.spot = Spot::Here(file);
         }
+    }
+}
+
+// Reads an object that is there; None where the call is to fail.
+pub(crate) fn read_at(
+    object: ObjectId,
+    entry: &mut Entry,
+    offset: u64,
+    out: &mut [u8],
+) -> Option<usize>
+    requires { IsThere (entry_slot object entry.old).state }
+    ensures length { IfSome result (λ n. n ≡ min (length out.old) (length (bytes_of (entry_slot object entry.old).state) - offset)) }
+    ensures bytes { IfSome result (λ n. out.new ≡ part_at (bytes_of (entry_slot object entry.old).state) offset n ++ drop n out.old) }
+    ensures due { is_none result ≡ is_some (slot_due (entry_slot object entry.old)) }
+    ensures counted { OnlyCounts (entry_slot object entry.old) (entry_slot object entry.new) }
+{
+    match &mut entry.spot {
+        Spot::Here(file) => {
+            if file.due().is_some() {
+                return None;
+            }
+            Some(copy_part(file.bytes(), offset, out))
+        }
+        _ => unreachable!(),
+    }
+}
+
+// What came of a deletion.
+pub(crate) enum Deletion {
+    Done,
+    Planned,
+    // The number of losses is the greatest u64, and can't rise.
+    Full,
+}
+
+// Takes away an object that is there. Its numbers of calls go on.
+pub(crate) fn delete_at(object: ObjectId, entry: &mut Entry) -> Deletion
+    requires { IsThere (entry_slot object entry.old).state }
+    ensures { DeletesSlot (entry_slot object entry.old) (entry_slot object entry.new) result }
+{
+    match replace(&mut entry.spot, Spot::Out) {
+        Spot::Here(mut file) => {
+            if file.due().is_some() {
+                entry.spot = Spot::Here(file);
+                return Deletion::Planned;
+            }
+            let Some(losses) = entry.losses.checked_add(1) else {
+                entry.spot = Spot::Here(file);
+                return Deletion::Full;
+            };
+            entry.spot = Spot::Gone(file.emptied());
+            entry.losses = losses;
+            Deletion::Done
+        }
+        _ => unreachable!(),
+    }
+}
+
+// Cuts an object as a crash does.
+pub(crate) fn cut_at(entry: &mut Entry, pick: u64)
+    ensures { IsCut pick entry.old entry.new }
+{
+    if let Spot::Here(file) = &mut entry.spot {
+        file.cut(pick);
     }
 }
 

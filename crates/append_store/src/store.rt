@@ -2,10 +2,10 @@
 ghost use Rattle.std.specs.Prelude.{◌≡◌, ◌≢◌, ◌⊎◌, ◌++◌, ◌-◌, ◌<◌, ◌≤◌, List, ℕ, length, min, take, drop, IfOk, IfErr, OnOk, OnErr, IsErrOf};
 ghost use Rattle.gw_outside.specs.Causes.{HasCause, Rose, Carries};
 ghost use Rattle.gw_model.specs.declared.object.ObjectId.{ObjectId};
-ghost use Rattle.append_store.specs.State.{ObjectState, Missing, Kept, Lent, IsThere};
-ghost use Rattle.append_store.specs.Calls.{Creates, MayCreate, Guards, added, part_at};
+ghost use Rattle.append_store.specs.State.{ObjectState, Missing, Kept, Lent, IsAway, IsCrashImage, IsThere, bytes_of};
+ghost use Rattle.append_store.specs.Calls.{Creates, MayCreate, Guards, IsRising, Lists, added, part_at};
 
-use gw_model::ObjectId;
+use gw_model::{KeptObject, ObjectId};
 
 /// An append that failed.
 #[derive(Clone, Copy, Debug, PartialEq, Eq)]
@@ -17,6 +17,15 @@ pub struct AppendFault {
 /// Another call of a file or a store that failed.
 #[derive(Clone, Copy, Debug, PartialEq, Eq)]
 pub struct StoreFault;
+
+/// Why the objects weren't listed.
+#[derive(Clone, Copy, Debug, PartialEq, Eq)]
+pub enum ListFault {
+    /// The store failed.
+    Fault,
+    /// Memory was refused.
+    Memory,
+}
 
 /// Why an object wasn't created.
 #[derive(Clone, Copy, Debug, PartialEq, Eq)]
@@ -93,12 +102,23 @@ pub trait Cluster: Drop {
     /// What the store has under a name.
     ghost at: { Self → ObjectId → ObjectState };
 
-    /// How often the durable length of an object fell, at a moment inside a call too. It never
-    /// falls, also when the object is gone.
+    /// How often the durable length of an object fell, or the object was taken away, at a moment
+    /// inside a call too. It never falls, also when the object is gone.
     ghost losses: { Self → ObjectId → ℕ };
 
     /// How often the store has failed, with the failures of the files that were given back.
     ghost count: { Self → ℕ };
+
+    /// The objects that are there, with their lengths in bytes: logs first, then by numbers. No
+    /// object may be out. Takes memory.
+    fn list(&mut self) -> Result<Vec<KeptObject>, ListFault>
+        requires { Self.File.tells → (q : ObjectId) → IsAway (at self.old q) → ⊥ }
+        ensures listed { IfOk result (λ all. Self.File.tells → Lists (at self.old) all.items) }
+        ensures rising { IfOk result (λ all. IsRising all.items) }
+        ensures same { Self.File.tells → (q : ObjectId) → at self.new q ≡ at self.old q }
+        ensures no_losses { Self.File.tells → (q : ObjectId) → losses self.new q ≡ losses self.old q }
+        ensures later { count self.old ≤ count self.new }
+        ensures cause { IsErrOf result ListFault.Fault → Rose (count self.old) (count self.new) };
 
     /// Makes an object of no bytes where nothing is, and leaves one that is there as it is. A call
     /// that failed may have made it. Takes memory.
@@ -136,6 +156,43 @@ pub trait Cluster: Drop {
         ensures others { Self.File.tells → (q : ObjectId) → q ≢ object → at self.new q ≡ at self.old q }
         ensures no_losses { Self.File.tells → (q : ObjectId) → q ≢ object → losses self.new q ≡ losses self.old q }
         ensures count { Carries (count self.old) (Self.File.count file) (count self.new) };
+
+    /// Reads an object without taking it out: copies what lies from `offset` on into the front of
+    /// `out`, as far as there is room, and gives how many bytes that were. The rest of `out` stays.
+    /// A call that failed may have written any bytes into `out`.
+    fn read_closed(
+        &mut self,
+        object: ObjectId,
+        offset: u64,
+        out: &mut [u8],
+    ) -> Result<usize, StoreFault>
+        requires { Self.File.tells → IsThere (at self.old object) }
+        ensures bound { IfOk result (λ n. n ≤ length out.old) }
+        ensures length { IfOk result (λ n. Self.File.tells → n ≡ min (length out.old) (length (bytes_of (at self.old object)) - offset)) }
+        ensures bytes { IfOk result (λ n. Self.File.tells → out.new ≡ part_at (bytes_of (at self.old object)) offset n ++ drop n out.old) }
+        ensures same { Self.File.tells → (q : ObjectId) → at self.new q ≡ at self.old q }
+        ensures no_losses { Self.File.tells → (q : ObjectId) → losses self.new q ≡ losses self.old q }
+        ensures cause { HasCause (count self.old) (count self.new) result };
+
+    /// Takes an object away, with its bytes. A call that failed may have taken it away.
+    fn delete(&mut self, object: ObjectId) -> Result<(), StoreFault>
+        requires { Self.File.tells → IsThere (at self.old object) }
+        ensures done { OnOk result (Self.File.tells → at self.new object ≡ Missing) }
+        ensures failed { OnErr result (Self.File.tells → (at self.new object ≡ at self.old object) ⊎ (at self.new object ≡ Missing)) }
+        ensures others { Self.File.tells → (q : ObjectId) → q ≢ object → at self.new q ≡ at self.old q }
+        ensures losses { Self.File.tells → Guards (at self.old object) (at self.new object) (losses self.old object) (losses self.new object) }
+        ensures no_losses { Self.File.tells → (q : ObjectId) → q ≢ object → losses self.new q ≡ losses self.old q }
+        ensures cause { HasCause (count self.old) (count self.new) result };
+
+    /// Makes the store what it may be after a crash: each object keeps a prefix that has at least
+    /// what was durable, and all of it is durable then. `pick` says which of the crashes, where the
+    /// store has a choice. No object may be out. A call that failed may have cut some objects so.
+    fn reopen(&mut self, pick: u64) -> Result<(), StoreFault>
+        requires { Self.File.tells → (q : ObjectId) → IsAway (at self.old q) → ⊥ }
+        ensures done { OnOk result (Self.File.tells → (q : ObjectId) → IsCrashImage (at self.old q) (at self.new q)) }
+        ensures failed { OnErr result (Self.File.tells → (q : ObjectId) → (at self.new q ≡ at self.old q) ⊎ IsCrashImage (at self.old q) (at self.new q)) }
+        ensures no_losses { Self.File.tells → (q : ObjectId) → losses self.new q ≡ losses self.old q }
+        ensures cause { HasCause (count self.old) (count self.new) result };
 
     /// How often the store has failed, with the failures of the files that were given back. The
     /// count never falls, and stays at the greatest u64.

@@ -2,7 +2,7 @@ ghost use Rattle.std.specs.Prelude.{◌≡◌};
 ghost use Rattle.append_store.specs.State.{Missing};
 
 use super::*;
-use gw_model::ObjectId;
+use gw_model::{KeptObject, ObjectId};
 use std::test::Fail;
 
 const BODY: ObjectId = ObjectId::Body {
@@ -100,5 +100,35 @@ fn reads_and_syncs(rt: HostRuntime) -> Result<(), Fail> {
     assert_eq!(rt; file.read_at(u64::MAX, &mut out), Ok(0));
     assert_eq!(rt; out.as_slice(), b"ecde".as_slice());
     assert_eq!(rt; file.faults(), 2);
+    Ok(())
+}
+
+// Of "abcde" the first 3 bytes are durable, and the crash keeps one more. Of the calls on the store
+// as a whole, the first is planned to fail.
+#[test]
+fn lists_reopens_and_deletes(rt: HostRuntime) -> Result<(), Fail> {
+    let alloc = rt.alloc();
+    let first = Planned {
+        object: None,
+        call: 1,
+        kept: 0,
+    };
+    let mut cluster = MemCluster::new(alloc, vec![in alloc; first]?);
+    cluster.create(BODY).map_err(|_| "created")?;
+    let mut file = cluster.take_file(BODY).map_err(|_| "taken")?;
+    assert_eq!(rt; file.append(b"abc"), Ok(()));
+    assert_eq!(rt; file.hsync(), Ok(()));
+    assert_eq!(rt; file.append(b"de"), Ok(()));
+    cluster.give_file(BODY, file);
+    assert_eq!(rt; cluster.list().map(|_| ()), Err(ListFault::Fault));
+    let all = cluster.list().map_err(|_| "listed")?;
+    assert_eq!(rt; all.as_slice(), [KeptObject { object: BODY, length: 5 }].as_slice());
+    assert_eq!(rt; cluster.reopen(1), Ok(()));
+    let mut out = *b"------";
+    assert_eq!(rt; cluster.read_closed(BODY, 1, &mut out), Ok(3));
+    assert_eq!(rt; out.as_slice(), b"bcd---".as_slice());
+    assert_eq!(rt; cluster.delete(BODY), Ok(()));
+    assert_eq!(rt; cluster.content_of(BODY), None);
+    assert_eq!(rt; cluster.faults(), 1);
     Ok(())
 }
