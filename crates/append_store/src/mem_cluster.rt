@@ -77,6 +77,7 @@ fn listing(
     ensures items { IfOk result (λ all. all.items ≡ listed entries.now.entries) }
     ensures ordered { IsOrdered object_cmp entries.now }
 {
+    // A call on the map tells that its entries are in order, which the clause passes on.
     let _ = entries.len();
     let mut all = Vec::new(alloc);
     for (object, entry) in entries {
