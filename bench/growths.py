@@ -4,7 +4,8 @@
     bench/growths.py [--first N] [--last N] [--beyond N]
 
 The run is the one of crates/nfsgw/stdin. With the Nth allocation failing, for N = 1, 2, .., it must end with status 3
-(no memory) and a front of crates/nfsgw/stdout, or with status 0 and the whole of it. It stops after the first run that
+(no memory) and a front of crates/nfsgw/stdout, or with status 0 and the whole of it. An allocation of the store in memory
+is the store's own: its append fails, and the run must end with status 0 and say so. It stops after the first run that
 ends with status 0 and `--beyond` more that do, since by then there is no Nth allocation. Each run is one of `rt try`,
 which builds the program again and takes some seconds.
 """
@@ -20,6 +21,14 @@ CRATE = os.path.join(ROOT, "crates", "nfsgw")
 
 DONE = 0
 NO_MEMORY = 3
+
+# What the run writes where its one append fails and keeps nothing: a reply of NFS3ERR_IO without attributes (RFC 1813
+# section 3.3.7), and a write that was lost.
+APPEND_FAILED = b"""reply 1 80000024000000010000000100000000000000000000000000000000000000050000000000000000
+context 4 from 0
+write 1 0 5 lost -
+ended 4 end reach 5 stored 0 synced 0
+"""
 
 # The last line of `rt try`, on standard error, where the program ran to its end.
 ENDED = re.compile(rb"^run=ended status=(\d+) ", re.MULTILINE)
@@ -44,7 +53,7 @@ def run_failing_at(number, crate, words):
 
 def is_right(status, output, whole):
     if status == DONE:
-        return output == whole
+        return output in (whole, APPEND_FAILED)
     return status == NO_MEMORY and whole.startswith(output)
 
 
