@@ -1,0 +1,16 @@
+//! The writes of a file that wait for the bytes before them, in the order in which they are to be written: by offset,
+//! then by number.
+#![tactic(auto)]
+
+mod entry;
+mod laws;
+mod pending;
+mod sorted_vec;
+
+pub use entry::{Entry, Place};
+pub use laws::order_laws;
+pub use pending::PendingMap;
+pub use sorted_vec::SortedVecMap;
+
+#[cfg(test)]
+mod tests;
