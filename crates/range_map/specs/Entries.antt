@@ -1,5 +1,5 @@
 -- Pending entries in order.
-use Rattle.std.specs.Prelude.{ℕ, ◌+◌, ◌==◌, ◌&&◌, ◌||◌, Bool, true, false, Option, Some, List, [], ◌∷◌, map, find, max, min, nat_le, nat_lt, if◌then◌else◌}
+use Rattle.std.specs.Prelude.{ℕ, ◌+◌, ◌==◌, ◌&&◌, ◌||◌, Bool, true, false, not, Option, Some, List, [], ◌∷◌, map, find, max, min, nat_lt, if◌then◌else◌}
 use Rattle.std.specs.List.{list_all}
 use Rattle.gw_model.specs.declared.Stable.{Stable}
 use Rattle.tickets.specs.Desk.{TicketId}
@@ -15,6 +15,10 @@ is_before a b = nat_lt a.offset b.offset || (a.offset == b.offset && nat_lt a.nu
 abbrev pub is_in_order : List Entry → Bool
 is_in_order [] = true
 is_in_order (e ∷ es) = list_all (is_before e) es && is_in_order es
+
+-- no entry has this number
+abbrev pub is_new : ℕ → List Entry → Bool
+is_new number es = list_all (λ e. not (e.number == number)) es
 
 -- the entry goes behind those before it
 abbrev pub put_in : Entry → List Entry → List Entry

@@ -1,8 +1,8 @@
 // What a map of pending writes does.
-ghost use Rattle.std.specs.Prelude.{◌≡◌, ◌≢◌, ◌^◌, ◌<◌, true, List, [], length, drop, reverse, find, slice_get, All, OnOk, IfErr, IfSome, IsNone, IsSomeAnd};
+ghost use Rattle.std.specs.Prelude.{◌≡◌, ◌^◌, ◌<◌, true, List, [], length, drop, reverse, find, slice_get, OnOk, IfErr, IfSome, IsNone, IsSomeAnd, IsTrue};
 ghost use Rattle.std.specs.Option.{option_copied};
 ghost use Rattle.range_map.specs.declared.entry.Entry.{Entry};
-ghost use Rattle.range_map.specs.Entries.{MayReplace, entry_at, goal_of, has_range, is_in_memory, is_in_order, put_in, with_place_at, with_ticket_at};
+ghost use Rattle.range_map.specs.Entries.{MayReplace, entry_at, goal_of, has_range, is_in_memory, is_in_order, is_new, put_in, with_place_at, with_ticket_at};
 
 use crate::{Entry, Place};
 use gw_model::Stable;
@@ -20,7 +20,7 @@ pub trait PendingMap: Drop {
 
     /// Puts an entry where it belongs. For want of memory it hands the entry back and changes nothing.
     fn insert(&mut self, entry: Entry) -> Result<(), Entry>
-        requires { All (λ e. e.number ≢ entry.number) (entries self.old) }
+        requires { IsTrue (is_new entry.number (entries self.old)) }
         ensures ok { OnOk result (entries self.new ≡ put_in entry (entries self.old)) }
         ensures back { IfErr result (λ e. e ≡ entry) }
         ensures err { IfErr result (λ e. entries self.new ≡ entries self.old) };
