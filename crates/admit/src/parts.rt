@@ -61,7 +61,6 @@ fn release_first<M: PendingMap>(
     ensures pending { M.entries pending.new ≡ drop 1 (M.entries pending.old) }
     ensures some { 0 < length (M.entries pending.old) }
     ensures fit { AllFit (M.entries pending.new) }
-    ensures upto { (n : ℕ) → AllUpTo n (M.entries pending.old) → AllUpTo n (M.entries pending.new) }
     ensures len { deque_len queue.new.ready ≡ deque_len queue.old.ready + 1 }
     ensures capacity { deque_capacity queue.new.ready ≡ deque_capacity queue.old.ready }
     ensures line { queue.new.line ≡ queue.old.line }
@@ -77,14 +76,14 @@ fn release_first<M: PendingMap>(
     let Entry {
         number,
         offset,
-        count,
+        count: _,
         weight,
         place,
         stable,
         ticket,
     } = entry;
     let mut bytes = bytes_in_memory(place);
-    let below = (reach - offset).min(u64::from(count));
+    let below = (reach - offset).min(bytes.len() as u64);
     bytes.advance(below as usize);
     let end = reach + bytes.len() as u64;
     *memory -= u128::from(weight);
@@ -116,7 +115,6 @@ fn release_all<M: PendingMap>(
     requires memory { memory.old ≡ memory_of (M.entries pending.old) }
     ensures low { result < 2 ^ 63 }
     ensures fit { AllFit (M.entries pending.new) }
-    ensures upto { (n : ℕ) → AllUpTo n (M.entries pending.old) → AllUpTo n (M.entries pending.new) }
     ensures len { deque_len queue.new.ready + length (M.entries pending.new) ≡ deque_len queue.old.ready + length (M.entries pending.old) }
     ensures capacity { deque_capacity queue.new.ready ≡ deque_capacity queue.old.ready }
     ensures line { queue.new.line ≡ queue.old.line }
@@ -159,14 +157,14 @@ pub fn accept_entry<M: PendingMap>(
     entry: Entry,
 ) -> Result<u64, Entry>
     requires fit { AllFit (M.entries pending.old) }
-    requires upto { AllUpTo (vec_len history.old) (M.entries pending.old) }
+    requires upto { AllUpTo (vec_len history.old) (writes_of (M.entries pending.old)) }
     requires low { reach < 2 ^ 63 }
     requires fits { Fits entry }
     requires number { entry.number ≡ vec_len history.old + 1 }
     requires memory { memory.old ≡ memory_of (M.entries pending.old) }
     ensures low { IfOk result (λ end. end < 2 ^ 63) }
     ensures fit { OnOk result (AllFit (M.entries pending.new)) }
-    ensures upto { OnOk result (AllUpTo (vec_len history.new) (M.entries pending.new)) }
+    ensures upto { OnOk result (AllUpTo (vec_len history.new) (writes_of (M.entries pending.new))) }
     ensures memory { OnOk result (memory.new ≡ memory_of (M.entries pending.new)) }
     ensures end { IfOk result (λ end. end ≡ reach_past reach (model.put_in (write_of entry) (writes_of (M.entries pending.old)))) }
     ensures rest { OnOk result (writes_of (M.entries pending.new) ≡ beyond reach (model.put_in (write_of entry) (writes_of (M.entries pending.old)))) }

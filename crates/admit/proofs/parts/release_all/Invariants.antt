@@ -1,9 +1,9 @@
-use Rattle.std.proofs.Common.{◌≡◌, ℕ, ◌+◌, ◌<◌, ◌^◌, ◌++◌, length, map}
+use Rattle.std.proofs.Common.{◌≡◌, ◌+◌, ◌<◌, ◌^◌, ◌++◌, length, map}
 use Rattle.std.specs.VecDeque.{deque_len, deque_capacity}
 use Rattle.gw_model.specs.Order.{beyond, reach_past, walk}
 use Rattle.gw_model.specs.Admission.{put_of}
 use Rattle.admit.specs.Queues.{jobs_of}
-use Rattle.admit.specs.Parts.{AllFit, AllUpTo, writes_of, memory_of}
+use Rattle.admit.specs.Parts.{AllFit, writes_of, memory_of}
 use Rattle.admit.proofs.parts.release_all.Given as goal
 
 abbrev pub invariant-loop-pending : goal.invariant-loop-pending
@@ -14,7 +14,6 @@ invariant-loop-pending g l =
       room : deque_len l.queue.ready + length (g.M.PendingMap.entries l.pending) ≡ deque_len l.fn.queue.ready + length (g.M.PendingMap.entries l.fn.pending);
       capacity : deque_capacity l.queue.ready ≡ deque_capacity l.fn.queue.ready;
       fit : AllFit (g.M.PendingMap.entries l.pending);
-      upto : (n : ℕ) → AllUpTo n (g.M.PendingMap.entries l.fn.pending) → AllUpTo n (g.M.PendingMap.entries l.pending);
       low : l.end < 2 ^ 63;
       line : l.queue.line ≡ l.fn.queue.line;
       fetches : l.queue.fetches ≡ l.fn.queue.fetches;
