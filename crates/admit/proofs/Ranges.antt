@@ -149,11 +149,11 @@ fit-give o n level t (e ∷ es) fit =
     elim (is_at o n e) as (λ b. AllFit (cond b (record e { stable = level; ticket = Some t }) e ∷ with_ticket_at o n level t es))
     [ true ↦ (fit.0, new, rest) | false ↦ (fit.0, new, rest) ]
 
-pub upto-give : (m o n : ℕ) (level : Stable) (t : TicketId) (es : List Entry) → AllUpTo m (writes_of es) → AllUpTo m (writes_of (with_ticket_at o n level t es))
+pub upto-give : (m o n : ℕ) (level : Stable) (t : TicketId) (es : List Entry) → AllUpTo m es → AllUpTo m (with_ticket_at o n level t es)
 upto-give m o n level t [] all = tt
 upto-give m o n level t (e ∷ es) all =
     let rest = upto-give m o n level t es all.1 in
-    elim (is_at o n e) as (λ b. AllUpTo m (writes_of (cond b (record e { stable = level; ticket = Some t }) e ∷ with_ticket_at o n level t es)))
+    elim (is_at o n e) as (λ b. AllUpTo m (cond b (record e { stable = level; ticket = Some t }) e ∷ with_ticket_at o n level t es))
     [ true ↦ (all.0, rest) | false ↦ (all.0, rest) ]
 
 pub ruleset gives = (at_found, writes-give, memory-give, fit-give, upto-give)

@@ -30,9 +30,9 @@ AllFit [] = Unit {0}
 AllFit (e ∷ es) = Fits e × (is_new e.number es ≡ true) × AllFit es
 
 -- each is one of the first n writes
-abbrev pub AllUpTo : ℕ → List Accepted → Type 0
+abbrev pub AllUpTo : ℕ → List Entry → Type 0
 AllUpTo n [] = Unit {0}
-AllUpTo n (w ∷ ws) = (w.number ≤ n) × AllUpTo n ws
+AllUpTo n (e ∷ es) = (e.number ≤ n) × AllUpTo n es
 
 abbrev pub writes_of : List Entry → List Accepted
 writes_of es = map write_of es

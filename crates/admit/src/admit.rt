@@ -60,7 +60,7 @@ impl<M: PendingMap> Model for Admit<M> {
       left = entries_left (M.entries a.leaving) ++ waiting_left a.leaving_waiting.commits ++ jobs_left a.leaving_jobs.items;
     } };
 
-    ghost invariant = { λ a. (a.reach < 2 ^ 63) × AllFit (M.entries a.pending) × AllUpTo (vec_len a.history) (writes_of (M.entries a.pending)) × (a.memory ≡ memory_of (M.entries a.pending)) × (a.limits.history < 2 ^ 32) × (a.limits.line_slots ≤ 8) × (a.limits.line_slots ≤ deque_capacity a.queue.line) × (a.queue.fetches ≤ deque_capacity a.leaving_jobs) };
+    ghost invariant = { λ a. (a.reach < 2 ^ 63) × AllFit (M.entries a.pending) × AllUpTo (vec_len a.history) (M.entries a.pending) × (a.memory ≡ memory_of (M.entries a.pending)) × (a.limits.history < 2 ^ 32) × (a.limits.line_slots ≤ 8) × (a.limits.line_slots ≤ deque_capacity a.queue.line) × (a.queue.fetches ≤ deque_capacity a.leaving_jobs) };
 }
 
 impl<M: PendingMap> Admit<M> {

@@ -157,14 +157,14 @@ pub fn accept_entry<M: PendingMap>(
     entry: Entry,
 ) -> Result<u64, Entry>
     requires fit { AllFit (M.entries pending.old) }
-    requires upto { AllUpTo (vec_len history.old) (writes_of (M.entries pending.old)) }
+    requires upto { AllUpTo (vec_len history.old) (M.entries pending.old) }
     requires low { reach < 2 ^ 63 }
     requires fits { Fits entry }
     requires number { entry.number ≡ vec_len history.old + 1 }
     requires memory { memory.old ≡ memory_of (M.entries pending.old) }
     ensures low { IfOk result (λ end. end < 2 ^ 63) }
     ensures fit { OnOk result (AllFit (M.entries pending.new)) }
-    ensures upto { OnOk result (AllUpTo (vec_len history.new) (writes_of (M.entries pending.new))) }
+    ensures upto { OnOk result (AllUpTo (vec_len history.new) (M.entries pending.new)) }
     ensures memory { OnOk result (memory.new ≡ memory_of (M.entries pending.new)) }
     ensures end { IfOk result (λ end. end ≡ reach_past reach (model.put_in (write_of entry) (writes_of (M.entries pending.old)))) }
     ensures rest { OnOk result (writes_of (M.entries pending.new) ≡ beyond reach (model.put_in (write_of entry) (writes_of (M.entries pending.old)))) }
