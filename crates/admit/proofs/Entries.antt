@@ -75,17 +75,19 @@ new-put_behind : (n : ℕ) (e : Entry) (es : List Entry) → not (e.number == n)
 new-put_behind n e [] apart new = both_true (not (e.number == n)) true apart refl
 new-put_behind n e (x ∷ xs) apart new =
     let parts = and_true (not (x.number == n)) (is_new n xs) new in
-    elim (nat_le x.offset e.offset) as (λ b. is_new n (cond b (x ∷ put_behind e xs) (e ∷ x ∷ xs)) ≡ true)
-    [ true ↦ both_true (not (x.number == n)) (is_new n (put_behind e xs)) parts.0 (new-put_behind n e xs apart parts.1)
-    | false ↦ both_true (not (e.number == n)) (is_new n (x ∷ xs)) apart new ]
+    elim (nat_le x.offset e.offset) as (λ b. is_new n (cond b (x ∷ put_behind e xs) (e ∷ x ∷ xs)) ≡ true) [
+      | true ↦ both_true (not (x.number == n)) (is_new n (put_behind e xs)) parts.0 (new-put_behind n e xs apart parts.1)
+      | false ↦ both_true (not (e.number == n)) (is_new n (x ∷ xs)) apart new
+    ]
 
 fit-put_behind : (n : ℕ) (e : Entry) (es : List Entry) → AllFit es → AllUpTo n es → n < e.number → Fits e → AllFit (put_behind e es)
 fit-put_behind n e [] fit all lt fits = (fits, refl, tt)
 fit-put_behind n e (x ∷ xs) fit all lt fits =
     let apart : not (e.number == x.number) ≡ true = grind (arith, nat_tests, all.0, lt) in
-    elim (nat_le x.offset e.offset) as (λ b. AllFit (cond b (x ∷ put_behind e xs) (e ∷ x ∷ xs)))
-    [ true ↦ (fit.0, new-put_behind x.number e xs apart fit.1, fit-put_behind n e xs fit.2 all.1 lt fits)
-    | false ↦ (fits, new_above n e.number (x ∷ xs) all lt, fit) ]
+    elim (nat_le x.offset e.offset) as (λ b. AllFit (cond b (x ∷ put_behind e xs) (e ∷ x ∷ xs))) [
+      | true ↦ (fit.0, new-put_behind x.number e xs apart fit.1, fit-put_behind n e xs fit.2 all.1 lt fits)
+      | false ↦ (fits, new_above n e.number (x ∷ xs) all lt, fit)
+    ]
 
 upto-more : (n m : ℕ) (es : List Entry) → n ≤ m → AllUpTo n es → AllUpTo m es
 upto-more n m [] le all = tt

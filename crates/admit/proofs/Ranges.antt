@@ -19,8 +19,8 @@ same_range-map o n (e ∷ es) fit =
     let rest = same_range-map o n es fit.2 in
     let test : ((e.offset == o) && (length (bytes_at e.place) == n)) ≡ has_range o n e = ap (λ m. (e.offset == o) && (m == n)) fit.0.1 in
     let go : (b : Bool) → has_range o n e ≡ b → same_range o n (writes_of (e ∷ es)) ≡ option_map write_of (find (has_range o n) (e ∷ es)) = elim [
-      true ↦ λ is. rw (test, is) refl
-    | false ↦ λ is. rw (test, is) rest
+      | true ↦ λ is. rw (test, is) refl
+      | false ↦ λ is. rw (test, is) rest
     ] in
     go (has_range o n e) refl
 
@@ -34,8 +34,8 @@ pub found_fits : (o n : ℕ) (es : List Entry) (e : Entry) → AllFit es → Som
 found_fits o n [] e fit is = cc
 found_fits o n (x ∷ xs) e fit is =
     let go : (b : Bool) → has_range o n x ≡ b → Fits e = elim [
-      true ↦ λ at. let here : Some e ≡ Some x = rw at at is in let same : x ≡ e = cc in subst Fits same fit.0
-    | false ↦ λ at. found_fits o n xs e fit.2 (rw at at is)
+      | true ↦ λ at. let here : Some e ≡ Some x = rw at at is in let same : x ≡ e = cc in subst Fits same fit.0
+      | false ↦ λ at. found_fits o n xs e fit.2 (rw at at is)
     ] in
     go (has_range o n x) refl
 
@@ -55,8 +55,8 @@ found_apart o c m [] w is new = cc
 found_apart o c m (e ∷ es) w is new =
     let parts = and_true (not (e.number == m)) (is_new m es) new in
     let go : (b : Bool) → range_test o c e ≡ b → not (w.number == m) ≡ true = elim [
-      true ↦ λ at. let here : Some (write_of e) ≡ Some w = rw at at is in let same : write_of e ≡ w = cc in ap (λ (v : Accepted). not (v.number == m)) (sym same) ∙ parts.0
-    | false ↦ λ at. found_apart o c m es w (rw at at is) parts.1
+      | true ↦ λ at. let here : Some (write_of e) ≡ Some w = rw at at is in let same : write_of e ≡ w = cc in ap (λ (v : Accepted). not (v.number == m)) (sym same) ∙ parts.0
+      | false ↦ λ at. found_apart o c m es w (rw at at is) parts.1
     ] in
     go (range_test o c e) refl
 
@@ -71,18 +71,18 @@ entry_there : (o c n : ℕ) (es : List Entry) (w : Accepted) → AllFit es → s
 entry_there o c n [] w fit is number free = cc
 entry_there o c n (e ∷ es) w fit is number free =
     let go : (b : Bool) → range_test o c e ≡ b → IsSomeAnd (entry_at o n (e ∷ es)) (λ (x : Entry). IsNone x.ticket) = elim [
-      true ↦ λ at.
-        let here : Some (write_of e) ≡ Some w = rw at at is in
-        let same : write_of e ≡ w = cc in
-        let begins = (and_true (e.offset == o) (length (bytes_at e.place) == c) at).0 in
-        let named : e.number ≡ n = ap (λ (v : Accepted). v.number) same ∙ number in
-        let place : is_at o n e ≡ true = grind (arith, nat_tests) in
-        rw place (no_ticket e.ticket (ap (λ (v : Accepted). v.ticket) same ∙ free))
-    | false ↦ λ at.
-        let there : same_range o c (writes_of es) ≡ Some w = rw at at is in
-        let apart = ap (λ m. not (m == e.number)) (sym number) ∙ found_apart o c e.number es w there fit.1 in
-        let off : is_at o n e ≡ false = not_at o n n e apart in
-        rw off (entry_there o c n es w fit.2 there number free)
+      | true ↦ λ at.
+          let here : Some (write_of e) ≡ Some w = rw at at is in
+          let same : write_of e ≡ w = cc in
+          let begins = (and_true (e.offset == o) (length (bytes_at e.place) == c) at).0 in
+          let named : e.number ≡ n = ap (λ (v : Accepted). v.number) same ∙ number in
+          let place : is_at o n e ≡ true = grind (arith, nat_tests) in
+          rw place (no_ticket e.ticket (ap (λ (v : Accepted). v.ticket) same ∙ free))
+      | false ↦ λ at.
+          let there : same_range o c (writes_of es) ≡ Some w = rw at at is in
+          let apart = ap (λ m. not (m == e.number)) (sym number) ∙ found_apart o c e.number es w there fit.1 in
+          let off : is_at o n e ≡ false = not_at o n n e apart in
+          rw off (entry_there o c n es w fit.2 there number free)
     ] in
     go (range_test o c e) refl
 
@@ -98,20 +98,20 @@ gives_first : (o c n : ℕ) (level : Stable) (t : TicketId) (es : List Entry) (w
 gives_first o c n level t [] w fit is number = cc
 gives_first o c n level t (e ∷ es) w fit is number =
     let go : (b : Bool) → range_test o c e ≡ b → writes_of (with_ticket_at o n level t (e ∷ es)) ≡ set_first n (with_ticket level t.number) (writes_of (e ∷ es)) = elim [
-      true ↦ λ at.
-        let here : Some (write_of e) ≡ Some w = rw at at is in
-        let same : write_of e ≡ w = cc in
-        let begins = (and_true (e.offset == o) (length (bytes_at e.place) == c) at).0 in
-        let named : e.number ≡ n = ap (λ (v : Accepted). v.number) same ∙ number in
-        let place : is_at o n e ≡ true = grind (arith, nat_tests) in
-        let head : (e.number == n) ≡ true = grind (arith, nat_tests) in
-        rw (place, head) (ap (λ xs. with_ticket level t.number (write_of e) ∷ writes_of xs) (untouched o n level t es (subst (λ m. is_new m es ≡ true) named fit.1)))
-    | false ↦ λ at.
-        let there : same_range o c (writes_of es) ≡ Some w = rw at at is in
-        let apart = ap (λ m. not (m == e.number)) (sym number) ∙ found_apart o c e.number es w there fit.1 in
-        let off : is_at o n e ≡ false = not_at o n n e apart in
-        let past : (e.number == n) ≡ false = grind (arith, nat_tests) in
-        rw (off, past) (ap (λ ws. write_of e ∷ ws) (gives_first o c n level t es w fit.2 there number))
+      | true ↦ λ at.
+          let here : Some (write_of e) ≡ Some w = rw at at is in
+          let same : write_of e ≡ w = cc in
+          let begins = (and_true (e.offset == o) (length (bytes_at e.place) == c) at).0 in
+          let named : e.number ≡ n = ap (λ (v : Accepted). v.number) same ∙ number in
+          let place : is_at o n e ≡ true = grind (arith, nat_tests) in
+          let head : (e.number == n) ≡ true = grind (arith, nat_tests) in
+          rw (place, head) (ap (λ xs. with_ticket level t.number (write_of e) ∷ writes_of xs) (untouched o n level t es (subst (λ m. is_new m es ≡ true) named fit.1)))
+      | false ↦ λ at.
+          let there : same_range o c (writes_of es) ≡ Some w = rw at at is in
+          let apart = ap (λ m. not (m == e.number)) (sym number) ∙ found_apart o c e.number es w there fit.1 in
+          let off : is_at o n e ≡ false = not_at o n n e apart in
+          let past : (e.number == n) ≡ false = grind (arith, nat_tests) in
+          rw (off, past) (ap (λ ws. write_of e ∷ ws) (gives_first o c n level t es w fit.2 there number))
     ] in
     go (range_test o c e) refl
 

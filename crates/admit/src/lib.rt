@@ -13,8 +13,8 @@ mod news;
 mod parts;
 mod phase;
 mod queue;
-mod request;
 mod replies;
+mod request;
 mod writes;
 
 pub use admit::Admit;
@@ -22,3 +22,5 @@ pub use laws::request_laws;
 pub use phase::{Cause, HistoryEntry, Phase};
 pub use request::{CommitReq, Failed, News, Pumped, ReadReq, Verdict, WriteReq};
 
+#[cfg(test)]
+mod tests;

@@ -1,6 +1,7 @@
 // Giving up, and the pump.
-ghost use Rattle.std.specs.Prelude.{◌≡◌, []};
+ghost use Rattle.std.specs.Prelude.{◌≡◌, ◌+◌, [], length, true, false};
 ghost use Rattle.gw_model.specs.Admission.{send_ready};
+ghost use Rattle.gw_model.specs.File.{is_stale};
 ghost use Rattle.gw_model.specs.Ending.{hull_of_entries};
 ghost use Rattle.gw_model.specs.Sides.{NonePlaced, refuse_all, seen_given_up, side_give_up, side_hear, side_join, side_pump, side_stale};
 ghost use Rattle.admit.specs.State.{cause_of};
@@ -81,38 +82,52 @@ impl<M: PendingMap> Admit<M> {
         self.hull = join_hull(self.hull, low, self.top);
     }
 
-    #[tactic(auto, unfolding(gw_model::specs::Sides::side_hear))]
-    fn hear(&mut self, news: News)
+    // Gives whether the file turned stale.
+    #[tactic(auto, unfolding(gw_model::specs::Sides::side_hear, gw_model::specs::Sides::side_stale))]
+    fn hear(&mut self, news: News) -> bool
         requires none_left { self.old.left ≡ [] }
-        ensures { self.new ≡ leaves (side_hear (news_of news) self.old.side) self.old }
+        ensures step { self.new ≡ leaves (side_hear (news_of news) self.old.side) self.old }
+        ensures turned { result ≡ true → (is_stale self.old.side.held.phase ≡ false) × (is_stale self.new.side.held.phase ≡ true) }
+        ensures same { result ≡ false → self.new ≡ self.old }
     {
         let Some(failed) = news.failed else {
-            return;
+            return false;
         };
         if let Phase::Stale(_) = self.phase {
-            return;
+            return false;
         }
         self.join_to_top(failed.stored);
         self.turn_stale(Cause::Append {
             stored: failed.stored,
             kept: failed.kept,
         });
+        true
     }
 
     #[tactic(auto, unfolding(gw_model::specs::Admission::send_ready))]
-    fn send(&mut self)
-        ensures { self.new ≡ record self.old { side = record self.old.side { held = send_ready self.old.limits self.old.side.held } } }
+    fn send(&mut self) -> u32
+        ensures step { self.new ≡ record self.old { side = record self.old.side { held = send_ready self.old.limits self.old.side.held } } }
+        ensures sent { length self.new.side.held.line ≡ length self.old.side.held.line + result }
+        ensures same { self.new.side.held.phase ≡ self.old.side.held.phase }
     {
+        let before = self.queue.line.len();
         send_all(&mut self.queue, self.limits.line_slots as usize);
+        (self.queue.line.len() - before) as u32
     }
 
     #[tactic(auto, unfolding(gw_model::specs::Sides::side_pump))]
-    fn take_news(&mut self, news: News)
+    fn take_news(&mut self, news: News) -> Pumped
         requires none_left { self.old.left ≡ [] }
-        ensures { self.new ≡ leaves (side_pump self.old.limits (news_of news) self.old.side) self.old }
+        ensures step { self.new ≡ leaves (side_pump self.old.limits (news_of news) self.old.side) self.old }
+        ensures pumped { IsPumped result self.old self.new }
     {
-        self.hear(news);
-        self.send();
+        let turned = self.hear(news);
+        let sent = self.send();
+        if turned {
+            Pumped::TurnedStale
+        } else {
+            Pumped::Sent(sent)
+        }
     }
 
     #[tactic(auto, using(crate::proofs::Losses::unplaced))]
@@ -124,13 +139,14 @@ impl<M: PendingMap> Admit<M> {
 
     /// Hears of the writer, and sends what is ready. Where the writer failed and the file is live, it turns stale. Takes no
     /// memory.
-    pub fn pump(&mut self, news: News)
+    pub fn pump(&mut self, news: News) -> Pumped
         requires none_left { self.old.left ≡ [] }
         ensures step { self.new ≡ leaves (side_pump self.old.limits (news_of news) self.old.side) self.old }
         ensures stands { Pumps self.old news self.new }
+        ensures pumped { IsPumped result self.old self.new }
     {
         request_laws();
         self.all_in_memory();
-        self.take_news(news);
+        self.take_news(news)
     }
 }

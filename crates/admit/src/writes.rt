@@ -16,7 +16,9 @@ use crate::meets::{Found, Meets, Repeat};
 use crate::parts::{accept_entry, is_memory_over};
 use crate::phase::Phase;
 use crate::queue::{is_over, push_job};
-use crate::replies::{INVAL, IO, JUKEBOX, given_back, is_unstable, not_written, split_ticket, wrote};
+use crate::replies::{
+    INVAL, IO, JUKEBOX, given_back, is_unstable, not_written, split_ticket, wrote,
+};
 use crate::request::{Verdict, WriteReq};
 use gw_model::Stable;
 use range_map::{Entry, PendingMap, Place};
@@ -96,7 +98,11 @@ impl<M: PendingMap> Admit<M> {
             return Meets::Barred;
         }
         if request.offset + request.bytes.len() as u64 <= self.reach {
-            if is_over(&self.queue, 1024 + request.bytes.len() as u64, self.limits.ready_cap) {
+            if is_over(
+                &self.queue,
+                1024 + request.bytes.len() as u64,
+                self.limits.ready_cap,
+            ) {
                 return Meets::Busy;
             }
             return Meets::Compared;
@@ -223,7 +229,13 @@ impl<M: PendingMap> Admit<M> {
             Repeat::Unanswered => Verdict::Dropped(request.ticket),
             Repeat::Answered => Verdict::Reply(wrote(request.ticket, count, request.stable)),
             Repeat::Takes => {
-                self.give_ticket(request.offset, count, number, request.stable, request.ticket);
+                self.give_ticket(
+                    request.offset,
+                    count,
+                    number,
+                    request.stable,
+                    request.ticket,
+                );
                 Verdict::Held
             }
         }

@@ -12,14 +12,14 @@ pub invariant_of-self : goal.invariant_of-self
 invariant_of-self g c =
     let before = g.M.PendingMap.entries c.self.inside.pending in
     let inv = c.self.invariant in (
-        inv.0,
-        rw c.give_ticket.ensures (fit-give c.args.offset c.args.number c.args.stable c.args.ticket before inv.1),
-        rw c.give_ticket.ensures (upto-give _ c.args.offset c.args.number c.args.stable c.args.ticket before inv.2),
-        rw c.give_ticket.ensures (inv.3 ∙ sym (memory-give c.args.offset c.args.number c.args.stable c.args.ticket before)),
-        inv.4,
-        inv.5,
-        inv.6,
-        inv.7,
+      inv.0,
+      rw c.give_ticket.ensures (fit-give c.args.offset c.args.number c.args.stable c.args.ticket before inv.1),
+      rw c.give_ticket.ensures (upto-give _ c.args.offset c.args.number c.args.stable c.args.ticket before inv.2),
+      rw c.give_ticket.ensures (inv.3 ∙ sym (memory-give c.args.offset c.args.number c.args.stable c.args.ticket before)),
+      inv.4,
+      inv.5,
+      inv.6,
+      inv.7,
     )
 
 pub returns : goal.returns
