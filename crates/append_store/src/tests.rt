@@ -1,5 +1,6 @@
-ghost use Rattle.std.specs.Prelude.{◌≡◌};
-ghost use Rattle.append_store.specs.State.{Missing};
+ghost use Rattle.std.specs.Prelude.{◌≡◌, true};
+ghost use Rattle.gw_model.specs.declared.object.ObjectId.{ObjectId};
+ghost use Rattle.append_store.specs.State.{IsAway, IsThere, Missing};
 
 use super::*;
 use gw_model::{KeptObject, ObjectId};
@@ -17,6 +18,15 @@ fn fails_at(call: u64) -> Planned {
         call,
         kept: 3,
     }
+}
+
+// Makes the body in a store where nothing is.
+fn makes_body<C: Cluster>(cluster: &mut C) -> bool
+    requires { C.File.tells → (q : ObjectId) → C.at cluster.old q ≡ Missing }
+    ensures there { result ≡ true → C.File.tells → IsThere (C.at cluster.new BODY) }
+    ensures none_out { result ≡ true → C.File.tells → (q : ObjectId) → IsAway (C.at cluster.new q) → ⊥ }
+{
+    cluster.create(BODY).is_ok()
 }
 
 // Makes the body in a store where it isn't, and takes it.
@@ -114,7 +124,7 @@ fn lists_what_is_there(rt: HostRuntime) -> Result<(), Fail> {
     };
     let mut cluster = MemCluster::new(alloc, vec![in alloc; first]?);
     assert_eq!(rt; cluster.list().map(|_| ()), Err(ListFault::Fault));
-    assert_eq!(rt; cluster.create(BODY), Ok(()));
+    assert!(rt; makes_body(&mut cluster));
     let all = cluster.list().map_err(|_| "listed")?;
     let body = KeptObject {
         object: BODY,
@@ -130,7 +140,7 @@ fn lists_what_is_there(rt: HostRuntime) -> Result<(), Fail> {
 fn reopens_with_what_is_durable(rt: HostRuntime) -> Result<(), Fail> {
     let alloc = rt.alloc();
     let mut cluster = MemCluster::new(alloc, Vec::new(alloc));
-    assert_eq!(rt; cluster.create(BODY), Ok(()));
+    assert!(rt; makes_body(&mut cluster));
     let mut file = cluster.take_file(BODY).map_err(|_| "taken")?;
     assert_eq!(rt; file.append(b"abc"), Ok(()));
     assert_eq!(rt; file.hsync(), Ok(()));
@@ -147,7 +157,7 @@ fn reopens_with_what_is_durable(rt: HostRuntime) -> Result<(), Fail> {
 fn deletes_what_is_there(rt: HostRuntime) -> Result<(), Fail> {
     let alloc = rt.alloc();
     let mut cluster = MemCluster::new(alloc, Vec::new(alloc));
-    assert_eq!(rt; cluster.create(BODY), Ok(()));
+    assert!(rt; makes_body(&mut cluster));
     assert_eq!(rt; cluster.delete(BODY), Ok(()));
     assert_eq!(rt; cluster.content_of(BODY), None);
     Ok(())
