@@ -7,8 +7,8 @@ ghost use Rattle.append_store.specs.Calls.{part_at};
 ghost use Rattle.append_store.specs.File.{shown};
 ghost use Rattle.append_store.specs.Slots.{CreatesSlot, IsCut, DeletesSlot, IsTakenOf, IsOut, OnlyCounts, IsBackAs, entry_slot, slot_due};
 
-use crate::mem_file::copy_part;
 use crate::MemFile;
+use crate::mem_file::copy_part;
 use gw_model::ObjectId;
 use std::mem::replace;
 

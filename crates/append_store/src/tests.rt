@@ -1,5 +1,6 @@
-ghost use Rattle.std.specs.Prelude.{◌≡◌};
-ghost use Rattle.append_store.specs.State.{Missing};
+ghost use Rattle.std.specs.Prelude.{◌≡◌, true};
+ghost use Rattle.gw_model.specs.declared.object.ObjectId.{ObjectId};
+ghost use Rattle.append_store.specs.State.{IsAway, IsThere, Missing};
 
 use super::*;
 use gw_model::{KeptObject, ObjectId};
@@ -17,6 +18,15 @@ fn fails_at(call: u64) -> Planned {
         call,
         kept: 3,
     }
+}
+
+// Makes the body in a store where nothing is.
+fn makes_body<C: Cluster>(cluster: &mut C) -> bool
+    requires { C.File.tells → (q : ObjectId) → C.at cluster.old q ≡ Missing }
+    ensures there { result ≡ true → C.File.tells → IsThere (C.at cluster.new BODY) }
+    ensures none_out { result ≡ true → C.File.tells → (q : ObjectId) → IsAway (C.at cluster.new q) → ⊥ }
+{
+    cluster.create(BODY).is_ok()
 }
 
 // Makes the body in a store where it isn't, and takes it.
@@ -103,10 +113,9 @@ fn reads_and_syncs(rt: HostRuntime) -> Result<(), Fail> {
     Ok(())
 }
 
-// Of "abcde" the first 3 bytes are durable, and the crash keeps one more. Of the calls on the store
-// as a whole, the first is planned to fail.
+// Of the calls on the store as a whole, the first is planned to fail.
 #[test]
-fn lists_reopens_and_deletes(rt: HostRuntime) -> Result<(), Fail> {
+fn lists_what_is_there(rt: HostRuntime) -> Result<(), Fail> {
     let alloc = rt.alloc();
     let first = Planned {
         object: None,
@@ -114,21 +123,42 @@ fn lists_reopens_and_deletes(rt: HostRuntime) -> Result<(), Fail> {
         kept: 0,
     };
     let mut cluster = MemCluster::new(alloc, vec![in alloc; first]?);
-    cluster.create(BODY).map_err(|_| "created")?;
+    assert_eq!(rt; cluster.list().map(|_| ()), Err(ListFault::Fault));
+    assert!(rt; makes_body(&mut cluster));
+    let all = cluster.list().map_err(|_| "listed")?;
+    let body = KeptObject {
+        object: BODY,
+        length: 0,
+    };
+    assert_eq!(rt; all.as_slice(), [body].as_slice());
+    assert_eq!(rt; cluster.faults(), 1);
+    Ok(())
+}
+
+// Of "abcde" the first 3 bytes are durable, and the crash keeps one more.
+#[test]
+fn reopens_with_what_is_durable(rt: HostRuntime) -> Result<(), Fail> {
+    let alloc = rt.alloc();
+    let mut cluster = MemCluster::new(alloc, Vec::new(alloc));
+    assert!(rt; makes_body(&mut cluster));
     let mut file = cluster.take_file(BODY).map_err(|_| "taken")?;
     assert_eq!(rt; file.append(b"abc"), Ok(()));
     assert_eq!(rt; file.hsync(), Ok(()));
     assert_eq!(rt; file.append(b"de"), Ok(()));
     cluster.give_file(BODY, file);
-    assert_eq!(rt; cluster.list().map(|_| ()), Err(ListFault::Fault));
-    let all = cluster.list().map_err(|_| "listed")?;
-    assert_eq!(rt; all.as_slice(), [KeptObject { object: BODY, length: 5 }].as_slice());
     assert_eq!(rt; cluster.reopen(1), Ok(()));
     let mut out = *b"------";
     assert_eq!(rt; cluster.read_closed(BODY, 1, &mut out), Ok(3));
     assert_eq!(rt; out.as_slice(), b"bcd---".as_slice());
+    Ok(())
+}
+
+#[test]
+fn deletes_what_is_there(rt: HostRuntime) -> Result<(), Fail> {
+    let alloc = rt.alloc();
+    let mut cluster = MemCluster::new(alloc, Vec::new(alloc));
+    assert!(rt; makes_body(&mut cluster));
     assert_eq!(rt; cluster.delete(BODY), Ok(()));
     assert_eq!(rt; cluster.content_of(BODY), None);
-    assert_eq!(rt; cluster.faults(), 1);
     Ok(())
 }
