@@ -1,0 +1,31 @@
+use Rattle.std.proofs.Common.{◌∷◌, ◌++◌, [], length, sym, ◌∙◌, ap, append_assoc, append-nil, arith, rules}
+use Rattle.std.proofs.lemmas.List.{map-append}
+use Rattle.gw_model.specs.Admission.{settles_at}
+use Rattle.admit.specs.declared.job.Job.TheVariants.{Settle}
+use Rattle.admit.specs.Jobs.{job_of}
+use Rattle.admit.specs.Queues.{jobs_of}
+use Rattle.admit.specs.Parts.{all_waiting}
+use Rattle.admit.proofs.Goals.{some_ready, none_ready}
+use Rattle.admit.proofs.parts.settle_reached.Goals as goal
+
+pub loop-ticket-preserved : goal.loop-ticket-preserved
+loop-ticket-preserved c =
+    let before = c.loop-ticket.queue.ready.items in
+    let more = settles_at c.args.reach (all_waiting c.take_ready.new.self.commits) in
+    let rest = c.take_ready.ensures.others in
+    let some = rw (← rest) at (some_ready c.args.reach c.loop-ticket.waiting.commits c.in-Some.ticket (sym c.in-Some.is ∙ c.take_ready.ensures.ticket)) in
+    let one = Settle c.in-Some.ticket ∷ [] in
+    record {
+      room = omega (arith, c.loop-ticket.invariant.room, some.2, c.push_job.ensures.len, c.push_job.ensures.capacity);
+      line = c.push_job.ensures.line ∙ c.loop-ticket.invariant.line;
+      fetches = search rules;
+      jobs = ap (λ js. jobs_of js ++ more) c.push_job.ensures.items ∙ ap (λ js. js ++ more) (map-append job_of before one)
+          ∙ append_assoc (jobs_of before) (jobs_of one) more ∙ ap (λ js. jobs_of before ++ js) (sym some.0) ∙ c.loop-ticket.invariant.jobs;
+      left = some.1 ∙ c.loop-ticket.invariant.left;
+    }
+
+pub returns-clause-jobs : goal.returns-clause-jobs
+returns-clause-jobs c =
+    let none = none_ready c.args.reach c.loop-ticket.waiting.commits (sym c.in_default.is ∙ c.take_ready.ensures.ticket) in
+    let ready = jobs_of c.loop-ticket.queue.ready.items in
+    sym (ap (λ js. ready ++ js) none.0 ∙ append-nil ready) ∙ c.loop-ticket.invariant.jobs
