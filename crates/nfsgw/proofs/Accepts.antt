@@ -1,5 +1,5 @@
 -- WRITE: what the definition leaves of a file, and what the program keeps of that.
-use Rattle.std.proofs.Common.{◌≡◌, ℕ, ◌+◌, ◌≤◌, Bool, true, false, Option, None, Some, List, [], ◌++◌, length, take, nat_le, refl, sym, ◌∙◌, ap, subst, append-nil, length-append, arith}
+use Rattle.std.proofs.Common.{◌≡◌, ℕ, ◌+◌, ◌≤◌, false, Option, None, Some, List, [], ◌++◌, length, take, refl, sym, ◌∙◌, ap, subst, append-nil, length-append, arith}
 use Rattle.std.specs.Prelude.{◌^◌}
 use Rattle.std.proofs.lemmas.List.{take-append-le}
 use Rattle.std.proofs.Math.Seq.{take-length}
@@ -7,7 +7,7 @@ use Rattle.gw_model.specs.Order.{fold}
 use Rattle.gw_model.specs.Ahead.{Ahead, Called, Good, Bad, next_call}
 use Rattle.gw_model.specs.File as model
 use Rattle.gw_model.specs.File.{Answer, File, Side, Writer, side_of, reach_of, content, opened}
-use Rattle.gw_model.specs.Admission.{WriteRequest, io, fbig, write}
+use Rattle.gw_model.specs.Admission.{WriteRequest, io, write}
 use Rattle.gw_model.specs.Sides as sides
 use Rattle.gw_model.specs.Sides.{side_write}
 use Rattle.gw_model.proofs.Sides.{write_leads as file_write_leads}
@@ -15,7 +15,7 @@ use Rattle.gw_model.proofs.Givings.{open_stands}
 use Rattle.gw_model.proofs.Keeping.{opened_issues, write_issues}
 use Rattle.gw_model.proofs.Storing.{write_same, open_stores, same_stores}
 use Rattle.gw_model.proofs.Growing.{write_grows, line_reaches}
-use Rattle.nfsgw.specs.World.{World, send, unlimited, request, answer, of_step, opened_for, write_in, write_if, do_write, body_in, body_of}
+use Rattle.nfsgw.specs.World.{World, send, unlimited, request, answer, of_step, opened_for, write_in, body_in, body_of}
 use Rattle.nfsgw.specs.Steps as steps
 use Rattle.nfsgw.specs.Steps.{Context, State, fresh, says, refuses, placed, taken_by}
 use Rattle.nfsgw.specs.declared.call.WriteCall.{WriteCall}
@@ -40,7 +40,7 @@ file_leads before n w step c answers put t going kept said ahead is plain sound 
 }
 
 -- a write of the open file
-module _ (f : File) (n ticket : ℕ) (call : WriteCall) (t : Ahead) (s : Sound f n) (plain : IsPlain t.left) (few : n + 1 ≤ 2 ^ 65) where
+module _ (f : File) (n ticket : ℕ) (call : WriteCall) (t : Ahead) (s : Sound f n) (plain : IsPlain t.left) (few : n + 1 ≤ 2 ^ 80) where
   abbrev q : WriteRequest
   q = request ticket call
 
@@ -135,7 +135,7 @@ module _ (w : World) (n : ℕ) (is : IsGoing w n) (t : Ahead) (plain : IsPlain t
     sound = open_later w.opened n is.sound;
   }
 
-module _ (w : World) (n : ℕ) (is : IsGoing w n) (ticket : ℕ) (call : WriteCall) (few : n + 1 ≤ 2 ^ 65) (t : Ahead) (plain : IsPlain t.left) where
+module _ (w : World) (n : ℕ) (is : IsGoing w n) (ticket : ℕ) (call : WriteCall) (few : n + 1 ≤ 2 ^ 80) (t : Ahead) (plain : IsPlain t.left) where
   written_in : (o : Option File) → w.opened ≡ o → OpenSound o n → Leads (body_in w.body o) n (write_in o w (request ticket call) t) (steps.write_in (kept_of o) (length (body_in w.body o)) (request ticket call) w.desk t)
   written_in (Some f) e sound = placed_leads f n ticket call t sound plain few w is.going
   written_in None e sound = go (next_call t).called
@@ -152,9 +152,5 @@ module _ (w : World) (n : ℕ) (is : IsGoing w n) (ticket : ℕ) (call : WriteCa
           subst (λ c. Leads w.body n turned (placed (request ticket call) c w.desk later)) (opened_kept w.body) (subst (λ body. Leads body n turned (placed (request ticket call) (context_of f) w.desk later)) (opened_content w.body) here)
 
   -- A WRITE leads to what the program keeps.
-  pub write_leads : Leads (body_of w) n (do_write w (request ticket call) t) (steps.write_of (kept_of w.opened) (length (body_of w)) (request ticket call) w.desk t)
-  write_leads = go (nat_le (2 ^ 63) (call.offset + length call.content))
-    where
-      go : (b : Bool) → Leads (body_of w) n (write_if b w (request ticket call) t) (steps.write_if b (kept_of w.opened) (length (body_of w)) (request ticket call) w.desk t)
-      go true = refused_leads w n is t plain ticket fbig
-      go false = written_in w.opened refl is.sound
+  pub write_leads : Leads (body_of w) n (write_in w.opened w (request ticket call) t) (steps.write_in (kept_of w.opened) (length (body_of w)) (request ticket call) w.desk t)
+  write_leads = written_in w.opened refl is.sound

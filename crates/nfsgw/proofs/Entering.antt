@@ -58,7 +58,7 @@ module _ (r top : ℕ) (ps : List PendingWrite) (ranges : List Range) (line : Li
   pub holds_compare : (ticket : TicketId) (call : WriteCall) → call.offset + length call.content ≤ r → length call.content ≤ 1048576 → length line < 2 ^ 64
       → Placed c (side_write unlimited c.side (request ticket.number call)) (context_of r top ps ranges (line ++ Compare call.offset call.content ticket ∷ []) w) []
   holds_compare ticket call le few room =
-      let room' : length (jobs_of line) < 2 ^ 65 = omega (arith, room, length-map line job_of) in
+      let room' : length (jobs_of line) < 2 ^ 80 = omega (arith, room, length-map line job_of) in
       let is = meets_below r top (writes_of ps) (entries_from 1 ranges) (jobs_of line) (changed_by ranges) ticket.number call le (omega (arith, few))
       ∙ compares r top (writes_of ps) (entries_from 1 ranges) (jobs_of line) (changed_by ranges) ticket.number call room' in (
         ap (λ js. let x : Context = record c { side = side_with r top (writes_of ps) (entries_from 1 ranges) js (changed_by ranges) } in x) (map-append job_of line (Compare call.offset call.content ticket ∷ []))
@@ -114,7 +114,7 @@ module _ (r top : ℕ) (ps : List PendingWrite) (ranges : List Range) (line : Li
       → side_write unlimited c.side (request ticket call) ≡ side_write_by Taken unlimited c.side (request ticket call)
       → Placed c (side_write unlimited c.side (request ticket call)) (record c { side = accepted_into c.side (write_of e) }) (early_answers (nat_lt r call.offset) (request ticket call))
   takes_entry e ticket call is line_few ps_few taken =
-      let room : length (jobs_of line) + length (writes_of ps) + 1 ≤ 2 ^ 65 = omega (arith, line_few, ps_few, length-map line job_of, length-map ps write_of) in
+      let room : length (jobs_of line) + length (writes_of ps) + 1 ≤ 2 ^ 80 = omega (arith, line_few, ps_few, length-map line job_of, length-map ps write_of) in
       let told = taken ∙ takes r top (writes_of ps) (entries_from 1 ranges) (jobs_of line) (changed_by ranges) ticket call (all_here ps) room in (
         ap (λ x. let y : Context = record c { side = accepted_into c.side x } in y) is ∙ ap (λ (t : Told). let x : Context = record c { side = t.side } in x) (sym told),
         ap (λ (t : Told). t.answers) told ∙ go (nat_lt r call.offset),

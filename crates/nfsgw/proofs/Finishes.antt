@@ -8,7 +8,7 @@ use Rattle.gw_model.specs.Ahead.{Called}
 use Rattle.transcript.specs.Script.{Stop, AtEnd, AtBad, AtOpen}
 use Rattle.transcript.specs.Writing.{IsPrefix, AppendsPrefix}
 use Rattle.nfsgw.specs.Headline.{Outside, Traffic, Moves, Fails, nothing, script, ahead_of, IsWhole, IsShort, IsRead, IsRun, IsComplete, Runs}
-use Rattle.nfsgw.specs.Steps.{State, initial, gone_of, end_history}
+use Rattle.nfsgw.specs.Steps.{Serving, idle, gone_all, end_history}
 use Rattle.nfsgw.specs.Outside.{GivesBack, faults_at}
 use Rattle.nfsgw.specs.Progress.{Closes, IsShortOf, IsEnding, Ends, status_by}
 use Rattle.nfsgw.specs.declared.run.Turn.{Turn}
@@ -30,7 +30,7 @@ nothing_left (Some xs) h = h
 
 -- from what the program's steps came to, to what the definition says
 
-whole_is : (body bytes : List ℕ) (stopped : Bool) (s : Traffic) → gone_of body initial (script bytes).events (ahead_of s.calls) ≡ record { text = s.written; put = s.put; stopped = stopped; ahead = ahead_of [] } → IsWhole body bytes stopped s
+whole_is : (body bytes : List ℕ) (stopped : Bool) (s : Traffic) → gone_all body idle (script bytes).events (ahead_of s.calls) ≡ record { text = s.written; put = s.put; stopped = stopped; ahead = ahead_of [] } → IsWhole body bytes stopped s
 whole_is body bytes stopped s e =
     let t = output_is body bytes s.calls in record {
       text = t.text ∙ ap (λ x. x.text) e;
@@ -53,9 +53,9 @@ short_is tells body bytes s told g = λ later.
 abbrev more_text : Traffic → List ℕ → Traffic
 more_text s text = record s { written = s.written ++ text }
 
-module _ (tells : Type 0) (body : List ℕ) (kept : State) where
+module _ (tells : Type 0) (body : List ℕ) (kept : Serving) where
   abbrev history : List ℕ
-  history = end_history kept.opened
+  history = end_history kept.state.opened
 
   -- how far the transcript was read, whatever was written of the history
   read_bad : (stop : Stop) (n : ℕ) (bytes : List ℕ) (s : Traffic) (text : List ℕ) → stop ≢ AtEnd → Closes tells body stop n bytes s kept → IsRead (status.BadLine (n + 1)) bytes (more_text s text)
@@ -75,7 +75,7 @@ module _ (tells : Type 0) (body : List ℕ) (kept : State) where
   module _ (told : tells) where
     whole_of : (stop : Stop) (n : ℕ) (bytes : List ℕ) (s : Traffic) → Closes tells body stop n bytes s kept → IsWhole body bytes false (more_text s history)
     whole_of stop n bytes s c = whole_is body bytes false (more_text s history)
-        (ap (λ o. gone_of body initial (script bytes).events (ahead_of o)) (sym (append-nil s.calls)) ∙ c.gone told [] ∙ rw (append-nil s.put) refl)
+        (ap (λ o. gone_all body idle (script bytes).events (ahead_of o)) (sym (append-nil s.calls)) ∙ c.gone told [] ∙ rw (append-nil s.put) refl)
 
     whole : (is : Turn) (n : ℕ) (s : Traffic) (left : Option (List ℕ)) → is ≢ turn.StoreFault → is ≢ turn.WriteFault → is ≢ turn.NoMemory → IsEnding is tells body n s kept left
         → IsRun (status_by is n) body (s.taken ++ unwrap_or left []) (more_text s history)
@@ -116,7 +116,7 @@ given_fails : (calls : List Called) (a n : ℕ) (given : Option ℕ) (now : ℕ)
 given_fails calls a n None now f g = omega (arith, f, g)
 given_fails calls a n (Some m) now f g = let c = g.carried in omega (arith, f, c)
 
-module _ (tells : Type 0) (is : Turn) (n : ℕ) (state : State) (left left' held mid : Option (List ℕ)) (body bodied body' : List ℕ) (a m : ℕ) (given : Option ℕ) (now : ℕ)
+module _ (tells : Type 0) (is : Turn) (n : ℕ) (state : Serving) (left left' held mid : Option (List ℕ)) (body bodied body' : List ℕ) (a m : ℕ) (given : Option ℕ) (now : ℕ)
     (e : Ends tells is n state (record { left = left; held = held; body = body; faults = a }) (record { left = left'; held = mid; body = bodied; faults = faults_at m given }))
     (back : GivesBack m given now) (bytes : tells → body' ≡ bodied) where
   abbrev before : Outside
@@ -138,16 +138,16 @@ module _ (tells : Type 0) (is : Turn) (n : ℕ) (state : State) (left left' held
     fails = given_fails e.traffic.calls a m given now e.moves.fails back;
   }
 
-  pub runs_whole : (held' : Option (List ℕ)) → is ≢ turn.StoreFault → is ≢ turn.WriteFault → is ≢ turn.NoMemory → Appends mid held' (end_history state.opened)
+  pub runs_whole : (held' : Option (List ℕ)) → is ≢ turn.StoreFault → is ≢ turn.WriteFault → is ≢ turn.NoMemory → Appends mid held' (end_history state.state.opened)
       → Runs tells (status_by is n) before (record { left = left'; held = held'; body = body'; faults = now })
   runs_whole held' ns nw nm w = record {
-    traffic = more_text e.traffic (end_history state.opened);
-    moves = moved held' (end_history state.opened) w;
-    read = read_is tells body state is n e.traffic left' (end_history state.opened) e.ending;
+    traffic = more_text e.traffic (end_history state.state.opened);
+    moves = moved held' (end_history state.state.opened) w;
+    read = read_is tells body state is n e.traffic left' (end_history state.state.opened) e.ending;
     run = λ told. whole tells body state told is n e.traffic left' ns nw nm e.ending;
   }
 
-  pub runs_short : (held' : Option (List ℕ)) → is ≢ turn.StoreFault → is ≢ turn.WriteFault → is ≢ turn.NoMemory → AppendsPrefix mid held' (end_history state.opened)
+  pub runs_short : (held' : Option (List ℕ)) → is ≢ turn.StoreFault → is ≢ turn.WriteFault → is ≢ turn.NoMemory → AppendsPrefix mid held' (end_history state.state.opened)
       → Runs tells status.WriteFault before (record { left = left'; held = held'; body = body'; faults = now })
   runs_short held' ns nw nm w = record {
     traffic = more_text e.traffic w.0;
@@ -162,7 +162,7 @@ module _ (tells : Type 0) (is : Turn) (n : ℕ) (state : State) (left left' held
     traffic = more_text e.traffic [];
     moves = moved held' [] w;
     read = tt;
-    run = λ told. short tells body state told is n e.traffic [] left' ns nw nm e.ending (end_history state.opened, refl);
+    run = λ told. short tells body state told is n e.traffic [] left' ns nw nm e.ending (end_history state.state.opened, refl);
   }
 
   -- what is to be said of a run that a failure cut off, by how its lines ended

@@ -16,19 +16,17 @@ use Rattle.hex.specs.Hex.{decode_of}
 use Rattle.hex.specs.declared.error.FromHexError.{FromHexError}
 use Rattle.transcript.specs.Fields.{number_of, some_bytes}
 use Rattle.transcript.proofs.Numbers.{number_of-some, number_of-decimal}
-use Rattle.nfsgw.specs.Call.{IsCall, call_of, fields_of}
-use Rattle.nfsgw.specs.Grammar.{IsLine, IsName, is_name, first_line, later_line, bytes_line, call_in, write_line, line_of}
-use Rattle.nfsgw.specs.declared.call.WriteCall.{WriteCall}
-use Rattle.nfsgw.specs.declared.grammar.Event.TheVariants.{MakeFile, Write, Turn}
+use Rattle.nfsgw.specs.Grammar.{IsLine, IsName, is_name, file_line, bytes_line, piece_in, line_of}
+use Rattle.nfsgw.specs.declared.grammar.Event.TheVariants.{MakeFile, Bytes, Turn}
 use Rattle.nfsgw.specs.declared.grammar.Line.{Line}
 use Rattle.nfsgw.specs.declared.grammar.Line.TheVariants.{Go, End}
-use Rattle.nfsgw.proofs.CallLaw.{read_as as call_read_as, spelled as call_spelled}
 use Rattle.nfsgw.proofs.NameLaw.{name_of_test, test_of_name}
 
 -- from the grammar to the function
 
-first_again : (name : List ℕ) → IsName name → first_line (codes "file " ++ name) ≡ Some (Go MakeFile)
-first_again name n = rw (test_of_name name n) refl
+file_again : (first : Bool) (name : List ℕ) → first ≡ true → IsName name → line_of first (codes "file " ++ name) ≡ Some (Go MakeFile)
+unfolding line_of
+file_again first name f n = rw (f, test_of_name name n) refl
 
 digit_is_not_space : (c : ℕ) → digit_value c < 10 → (c == 32) ≡ false
 digit_is_not_space c h = let r = digit_from_value c h in grind (arith, nat_tests)
@@ -48,41 +46,41 @@ space_after digits hex h =
     let inside : nat_lt (length digits) (length (digits ++ 32 ∷ hex)) ≡ true = rw (length-append digits (32 ∷ hex)) (grind (arith, nat_tests)) in
     rw (at, inside) refl
 
-no_call : (call : WriteCall) → call_of [] ≡ Some call → ⊥
-unfolding call_of fields_of
-no_call call e = cc
-
-call_again : (conn : ℕ) (bytes : List ℕ) (d : Result (List ℕ) FromHexError) (call : WriteCall) → d ≡ Ok bytes → call_of bytes ≡ Some call → call_in (Some conn) (some_bytes d) ≡ Some (Go (Write conn call))
-call_again conn [] d call e f = absurd (no_call call f)
-call_again conn (b ∷ bytes) d call e f = ap (λ x. call_in (Some conn) (some_bytes x)) e ∙ ap (write_line conn) f
+piece_again : (conn : ℕ) (bytes : List ℕ) (d : Result (List ℕ) FromHexError) → d ≡ Ok bytes → 0 < length bytes → piece_in (Some conn) (some_bytes d) ≡ Some (Go (Bytes conn bytes))
+piece_again conn [] d e h = absurd (omega arith)
+piece_again conn (b ∷ bytes) d e h = ap (λ x. piece_in (Some conn) (some_bytes x)) e
 
 after_digits : (digits hex : List ℕ) → drop (length digits + 1) (digits ++ 32 ∷ hex) ≡ hex
 after_digits digits hex = drop-append-add digits (32 ∷ hex) 1
 
-bytes_again : (conn : ℕ) (hex bytes : List ℕ) (call : WriteCall) → conn < 2 ^ 32 → decode_of hex ≡ Ok bytes → call_of bytes ≡ Some call
-    → bytes_line (decimal conn ++ 32 ∷ hex) (position (λ b. b == 32) (decimal conn ++ 32 ∷ hex)) ≡ Some (Go (Write conn call))
-bytes_again conn hex bytes call c d k =
+bytes_again : (conn : ℕ) (hex bytes : List ℕ) → conn < 2 ^ 32 → decode_of hex ≡ Ok bytes → 0 < length bytes
+    → bytes_line (decimal conn ++ 32 ∷ hex) (position (λ b. b == 32) (decimal conn ++ 32 ∷ hex)) ≡ Some (Go (Bytes conn bytes))
+bytes_again conn hex bytes c d h =
     let wide : conn < 2 ^ 64 = omega arith in
     let digits = decimal conn in
     let at = space_after digits hex (decimal_is_IsNumeral conn wide).0.1 in
     let front : take (length digits) (digits ++ 32 ∷ hex) ≡ digits = take-append_seam digits (32 ∷ hex) in
-    rw (at, front, after_digits digits hex, number_of-decimal 32 conn wide c) (call_again conn bytes (decode_of hex) call d k)
+    rw (at, front, after_digits digits hex, number_of-decimal 32 conn wide c) (piece_again conn bytes (decode_of hex) d h)
 
-later_bytes : (rest : List ℕ) → later_line (codes "bytes " ++ rest) ≡ bytes_line rest (position (λ b. b == 32) rest)
-later_bytes rest = refl
+bytes_word : (first : Bool) (rest : List ℕ) → line_of first (codes "bytes " ++ rest) ≡ bytes_line rest (position (λ b. b == 32) rest)
+unfolding line_of
+bytes_word first rest = refl
+
+turn_again : (first : Bool) → line_of first (codes "turn 4") ≡ Some (Go Turn)
+unfolding line_of
+turn_again first = refl
+
+end_again : (first : Bool) → line_of first (codes "end") ≡ Some End
+unfolding line_of
+end_again first = refl
 
 pub spelled : (first : Bool) (text : List ℕ) (line : Line) → IsLine first text line → line_of first text ≡ Some line
-unfolding line_of
-spelled true text (Go MakeFile) s = rw s.1 (first_again s.0 s.2)
-spelled true text (Go (Write conn call)) s = absurd s
-spelled true text (Go Turn) s = absurd s
-spelled true text End s = absurd s
-spelled false text (Go MakeFile) s = absurd s
-spelled false text (Go (Write conn call)) s =
-    let whole : text ≡ codes "bytes " ++ (decimal conn ++ 32 ∷ s.0) = s.2 ∙ append_assoc (codes "bytes ") (decimal conn) (32 ∷ s.0) in
-    ap later_line whole ∙ (later_bytes (decimal conn ++ 32 ∷ s.0) ∙ bytes_again conn s.0 s.1 call s.3 s.4 (call_spelled s.1 call s.5))
-spelled false text (Go Turn) s = rw s refl
-spelled false text End s = rw s refl
+spelled first text (Go MakeFile) s = ap (line_of first) s.2 ∙ file_again first s.0 s.1 s.3
+spelled first text (Go (Bytes conn bytes)) s =
+    let whole : text ≡ codes "bytes " ++ (decimal conn ++ 32 ∷ s.0) = s.1 ∙ append_assoc (codes "bytes ") (decimal conn) (32 ∷ s.0) in
+    ap (line_of first) whole ∙ (bytes_word first (decimal conn ++ 32 ∷ s.0) ∙ bytes_again conn s.0 bytes s.2 s.3 s.4)
+spelled first text (Go Turn) s = ap (line_of first) s ∙ turn_again first
+spelled first text End s = ap (line_of first) s ∙ end_again first
 
 -- and back
 
@@ -91,39 +89,34 @@ word_front word text h =
     let e = (bytes_eq-Decides word (take (length word) text)).0 h in
     sym (take-append-drop (length word) text) ∙ ap (λ x. x ++ drop (length word) text) (sym e)
 
-first_if : (a b : Bool) (line : Line) → cond (a && b) (Some (Go MakeFile)) None ≡ Some line → (a ≡ true) × (b ≡ true) × (line ≡ Go MakeFile)
-first_if true true line e = (refl, refl, cc)
-first_if true false line e = cc
-first_if false b line e = cc
+all_three : (a b c : Bool) (line : Line) → cond (a && b && c) (Some (Go MakeFile)) None ≡ Some line → (a ≡ true) × (b ≡ true) × (c ≡ true) × (line ≡ Go MakeFile)
+all_three true true true line e = (refl, refl, refl, cc)
+all_three true true false line e = cc
+all_three true false c line e = cc
+all_three false b c line e = cc
 
-first_back : (text : List ℕ) (line : Line) → first_line text ≡ Some line → IsLine true text line
-first_back text line e =
-    let g = first_if (starts_with nat_eq text (codes "file ")) (is_name (drop 5 text)) line e in
-    subst (IsLine true text) (sym g.2) (drop 5 text, word_front (codes "file ") text g.0, name_of_test (drop 5 text) g.1)
+file_back : (first : Bool) (text : List ℕ) (line : Line) → file_line first text ≡ Some line → IsLine first text line
+file_back first text line e =
+    let g = all_three first (starts_with nat_eq text (codes "file ")) (is_name (drop 5 text)) line e in
+    subst (IsLine first text) (sym g.3) (drop 5 text, g.0, word_front (codes "file ") text g.1, name_of_test (drop 5 text) g.2)
 
-abbrev IsBytes : List ℕ → Line → Type 0
-IsBytes rest (Go (Write conn call)) = (hex bytes : List ℕ) × (rest ≡ decimal conn ++ 32 ∷ hex) × (conn < 2 ^ 32) × (decode_of hex ≡ Ok bytes) × IsCall bytes call
-IsBytes rest (Go MakeFile) = ⊥
-IsBytes rest (Go Turn) = ⊥
-IsBytes rest End = ⊥
-
-call_back : (rest hex bytes : List ℕ) (conn : ℕ) (o : Option WriteCall) (line : Line) → rest ≡ decimal conn ++ 32 ∷ hex → conn < 2 ^ 32 → decode_of hex ≡ Ok bytes → call_of bytes ≡ o
-    → write_line conn o ≡ Some line → IsBytes rest line
-call_back rest hex bytes conn None line r c d k h = cc
-call_back rest hex bytes conn (Some call) line r c d k h =
-    let is : line ≡ Go (Write conn call) = cc in
-    subst (IsBytes rest) (sym is) (hex, bytes, r, c, d, call_read_as bytes call k)
+abbrev IsPiece : List ℕ → Line → Type 0
+IsPiece rest (Go (Bytes conn bytes)) = (hex : List ℕ) × (rest ≡ decimal conn ++ 32 ∷ hex) × (conn < 2 ^ 32) × (decode_of hex ≡ Ok bytes) × (0 < length bytes)
+IsPiece rest (Go MakeFile) = ⊥
+IsPiece rest (Go Turn) = ⊥
+IsPiece rest End = ⊥
 
 fields_back : (rest front hex : List ℕ) (n : Option ℕ) (d : Result (List ℕ) FromHexError) (line : Line) → rest ≡ front ++ 32 ∷ hex → number_of 32 front ≡ n → decode_of hex ≡ d
-    → call_in n (some_bytes d) ≡ Some line → IsBytes rest line
+    → piece_in n (some_bytes d) ≡ Some line → IsPiece rest line
 fields_back rest front hex None d line r e f h = cc
 fields_back rest front hex (Some conn) (Err x) line r e f h = cc
 fields_back rest front hex (Some conn) (Ok []) line r e f h = cc
 fields_back rest front hex (Some conn) (Ok (b ∷ bytes)) line r e f h =
     let p = number_of-some 32 front conn e in
-    call_back rest hex (b ∷ bytes) conn (call_of (b ∷ bytes)) line (r ∙ ap (λ x. x ++ 32 ∷ hex) p.0) p.1 f refl h
+    let is : line ≡ Go (Bytes conn (b ∷ bytes)) = cc in
+    subst (IsPiece rest) (sym is) (hex, r ∙ ap (λ x. x ++ 32 ∷ hex) p.0, p.1, f, omega arith)
 
-bytes_back : (rest : List ℕ) (at : Option ℕ) (line : Line) → position (λ b. b == 32) rest ≡ at → bytes_line rest at ≡ Some line → IsBytes rest line
+bytes_back : (rest : List ℕ) (at : Option ℕ) (line : Line) → position (λ b. b == 32) rest ≡ at → bytes_line rest at ≡ Some line → IsPiece rest line
 bytes_back rest None line e h = cc
 bytes_back rest (Some i) line e h =
     let p = position-Some (λ b. b == 32) rest i 0 e in
@@ -131,30 +124,32 @@ bytes_back rest (Some i) line e h =
     let cut : rest ≡ take i rest ++ 32 ∷ drop (i + 1) rest = grind (arith, common_steps) in
     fields_back rest (take i rest) (drop (i + 1) rest) (number_of 32 (take i rest)) (decode_of (drop (i + 1) rest)) line cut refl refl h
 
-bytes_whole : (text : List ℕ) (line : Line) → text ≡ codes "bytes " ++ drop 6 text → IsBytes (drop 6 text) line → IsLine false text line
-bytes_whole text (Go (Write conn call)) w p = (p.0, p.1, w ∙ (ap (λ x. codes "bytes " ++ x) p.2 ∙ sym (append_assoc (codes "bytes ") (decimal conn) (32 ∷ p.0))), p.3, p.4, p.5)
-bytes_whole text (Go MakeFile) w p = absurd p
-bytes_whole text (Go Turn) w p = absurd p
-bytes_whole text End w p = absurd p
+bytes_whole : (first : Bool) (text : List ℕ) (line : Line) → text ≡ codes "bytes " ++ drop 6 text → IsPiece (drop 6 text) line → IsLine first text line
+bytes_whole first text (Go (Bytes conn bytes)) w p = (p.0, w ∙ (ap (λ x. codes "bytes " ++ x) p.1 ∙ sym (append_assoc (codes "bytes ") (decimal conn) (32 ∷ p.0))), p.2, p.3, p.4)
+bytes_whole first text (Go MakeFile) w p = absurd p
+bytes_whole first text (Go Turn) w p = absurd p
+bytes_whole first text End w p = absurd p
 
-later_back : (text : List ℕ) (line : Line) → later_line text ≡ Some line → IsLine false text line
-later_back text line h = go (bytes_eq text (codes "end")) refl h where
-  on_bytes : (b : Bool) → starts_with nat_eq text (codes "bytes ") ≡ b → cond b (bytes_line (drop 6 text) (position (λ b. b == 32) (drop 6 text))) None ≡ Some line → IsLine false text line
-  on_bytes true t f = bytes_whole text line (word_front (codes "bytes ") text t) (bytes_back (drop 6 text) (position (λ b. b == 32) (drop 6 text)) line refl f)
-  on_bytes false t f = cc
+-- what stands in each branch, from the last test to the first
 
-  on_turn : (b : Bool) → bytes_eq text (codes "turn 4") ≡ b
-      → cond b (Some (Go Turn)) (cond (starts_with nat_eq text (codes "bytes ")) (bytes_line (drop 6 text) (position (λ b. b == 32) (drop 6 text))) None) ≡ Some line → IsLine false text line
-  on_turn true t f = let is : line ≡ Go Turn = cc in subst (IsLine false text) (sym is) ((bytes_eq-Decides text (codes "turn 4")).0 t)
-  on_turn false t f = on_bytes (starts_with nat_eq text (codes "bytes ")) refl f
+on_bytes : (first : Bool) (text : List ℕ) (line : Line) (b : Bool) → starts_with nat_eq text (codes "bytes ") ≡ b
+    → cond b (bytes_line (drop 6 text) (position (λ b. b == 32) (drop 6 text))) (file_line first text) ≡ Some line → IsLine first text line
+on_bytes first text line true t f = bytes_whole first text line (word_front (codes "bytes ") text t) (bytes_back (drop 6 text) (position (λ b. b == 32) (drop 6 text)) line refl f)
+on_bytes first text line false t f = file_back first text line f
 
-  go : (b : Bool) → bytes_eq text (codes "end") ≡ b
-      → cond b (Some End) (cond (bytes_eq text (codes "turn 4")) (Some (Go Turn)) (cond (starts_with nat_eq text (codes "bytes ")) (bytes_line (drop 6 text) (position (λ b. b == 32) (drop 6 text))) None)) ≡ Some line
-      → IsLine false text line
-  go true t f = let is : line ≡ End = cc in subst (IsLine false text) (sym is) ((bytes_eq-Decides text (codes "end")).0 t)
-  go false t f = on_turn (bytes_eq text (codes "turn 4")) refl f
+on_turn : (first : Bool) (text : List ℕ) (line : Line) (b : Bool) → bytes_eq text (codes "turn 4") ≡ b
+    → cond b (Some (Go Turn)) (cond (starts_with nat_eq text (codes "bytes ")) (bytes_line (drop 6 text) (position (λ b. b == 32) (drop 6 text))) (file_line first text)) ≡ Some line
+    → IsLine first text line
+on_turn first text line true t f = let is : line ≡ Go Turn = cc in subst (IsLine first text) (sym is) ((bytes_eq-Decides text (codes "turn 4")).0 t)
+on_turn first text line false t f = on_bytes first text line (starts_with nat_eq text (codes "bytes ")) refl f
+
+on_end : (first : Bool) (text : List ℕ) (line : Line) (b : Bool) → bytes_eq text (codes "end") ≡ b
+    → cond b (Some End)
+        (cond (bytes_eq text (codes "turn 4")) (Some (Go Turn)) (cond (starts_with nat_eq text (codes "bytes ")) (bytes_line (drop 6 text) (position (λ b. b == 32) (drop 6 text))) (file_line first text)))
+    ≡ Some line → IsLine first text line
+on_end first text line true t f = let is : line ≡ End = cc in subst (IsLine first text) (sym is) ((bytes_eq-Decides text (codes "end")).0 t)
+on_end first text line false t f = on_turn first text line (bytes_eq text (codes "turn 4")) refl f
 
 pub read_as : (first : Bool) (text : List ℕ) (line : Line) → line_of first text ≡ Some line → IsLine first text line
 unfolding line_of
-read_as true text line e = first_back text line e
-read_as false text line e = later_back text line e
+read_as first text line e = on_end first text line (bytes_eq text (codes "end")) refl e

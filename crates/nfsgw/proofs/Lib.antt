@@ -1,16 +1,20 @@
-mod CallParts
-mod CallLaw
 mod NameLaw
 mod GrammarLaw
+mod Asking
+mod Refusing
 pub mod Waits
 pub mod Meeting
 pub mod Working
-pub mod StepWrites
-pub mod Lines
 pub mod Told
+pub mod Lines
+pub mod Traffic
+pub mod Doing
 pub mod StepCases
+pub mod StepWrites
+pub mod Hearing
 pub mod Runs
 pub mod Ready
+pub mod Few
 pub mod Finishes
 pub mod Scripts
 pub mod Entering
@@ -21,4 +25,3 @@ mod Accepts
 mod Turns
 mod Ends
 mod Bridge
-mod Rows

@@ -109,9 +109,9 @@ module _ (r top : ℕ) (ps : List Accepted) (es : List Entry) (line : List Job) 
   meets_new lt is few entries pending below =
       let above : nat_le (q.offset + length q.bytes) r ≡ false = lt-leb (q.offset + length q.bytes) r lt in
       let weight = weight_below ps below in
-      let history : nat_le (2 ^ 65) (length es) ≡ false = lt-leb (2 ^ 65) (length es) (omega (arith, entries)) in
-      let spare : nat_le (2 ^ 65 - 2 ^ 61) (length es) ≡ false = lt-leb (2 ^ 65 - 2 ^ 61) (length es) (omega (arith, entries)) in
-      let most : nat_le (2 ^ 65) (length ps) ≡ false = lt-leb (2 ^ 65) (length ps) (omega (arith, pending)) in
+      let history : nat_le (2 ^ 80) (length es) ≡ false = lt-leb (2 ^ 80) (length es) (omega (arith, entries)) in
+      let spare : nat_le (2 ^ 80 - 2 ^ 76) (length es) ≡ false = lt-leb (2 ^ 80 - 2 ^ 76) (length es) (omega (arith, entries)) in
+      let most : nat_le (2 ^ 80) (length ps) ≡ false = lt-leb (2 ^ 80) (length ps) (omega (arith, pending)) in
       let memory : nat_lt (2 ^ 128) (memory_weight ps + (1024 + length q.bytes)) ≡ false = le-ltb (2 ^ 128) (memory_weight ps + (1024 + length q.bytes)) (omega (arith, weight, few, pending)) in
       let ready : nat_lt (2 ^ 128) (0 + (1024 + length q.bytes)) ≡ false = le-ltb (2 ^ 128) (0 + (1024 + length q.bytes)) (omega (arith, few)) in
       rw (above, is, history, most, spare, memory, ready) (go (nat_lt r q.offset))
@@ -121,10 +121,10 @@ module _ (r top : ℕ) (ps : List Accepted) (es : List Entry) (line : List Job) 
       go false = refl
 
   -- a comparison is sent
-  pub compares : length line < 2 ^ 65 → side_write_by Compared unlimited s q ≡ record { side = side_with r top ps es (line ++ job (Compare call.offset call.content Unstable) (Some ticket) ∷ []) changed; answers = []; uses = true }
+  pub compares : length line < 2 ^ 80 → side_write_by Compared unlimited s q ≡ record { side = side_with r top ps es (line ++ job (Compare call.offset call.content Unstable) (Some ticket) ∷ []) changed; answers = []; uses = true }
   unfolding used_at send_ready
   compares room =
-      let sent = sends_all (2 ^ 65) line (job (Compare call.offset call.content Unstable) (Some ticket) ∷ []) (refl, tt) (omega (arith, room)) in
+      let sent = sends_all (2 ^ 80) line (job (Compare call.offset call.content Unstable) (Some ticket) ∷ []) (refl, tt) (omega (arith, room)) in
       ap (λ l. let t : Told = record { side = record s { held = with_lists l s.held }; answers = []; uses = true } in t) sent
 
   -- an answer at once leaves what was there
@@ -144,15 +144,15 @@ module _ (r top : ℕ) (ps : List Accepted) (es : List Entry) (line : List Job) 
   abbrev held_of : Option Hull → List Job → List Job → Held
   held_of hull line ready = record { ready = ready; line = line; waiting = []; hull = hull; phase = Live; used = 0; changed = Some 0; placed = 0 }
 
-  sent_is : (hull : Option Hull) → AllHere ps → length line + length ps + 1 ≤ 2 ^ 65 → send_ready unlimited (held_of hull line (puts ++ [])) ≡ held_of hull (line ++ puts) []
+  sent_is : (hull : Option Hull) → AllHere ps → length line + length ps + 1 ≤ 2 ^ 80 → send_ready unlimited (held_of hull line (puts ++ [])) ≡ held_of hull (line ++ puts) []
   unfolding send_ready
   sent_is hull here room =
       let few : length puts ≤ length ps + 1 = omega (arith, length-map (walk r all) put_of, length-walk r all, length-put_in w ps) in
-      let sent = sends_all (2 ^ 65) line puts (walk_here r all (here-put_in w ps refl here)) (omega (arith, few, room)) in
-      ap (λ js. with_lists (send (2 ^ 65) line js) (held_of hull line (puts ++ []))) (append-nil puts) ∙ ap (λ l. with_lists l (held_of hull line (puts ++ []))) sent
+      let sent = sends_all (2 ^ 80) line puts (walk_here r all (here-put_in w ps refl here)) (omega (arith, few, room)) in
+      ap (λ js. with_lists (send (2 ^ 80) line js) (held_of hull line (puts ++ []))) (append-nil puts) ∙ ap (λ l. with_lists l (held_of hull line (puts ++ []))) sent
 
   -- an accepted write, and those that it releases, are sent
-  pub takes : AllHere ps → length line + length ps + 1 ≤ 2 ^ 65
+  pub takes : AllHere ps → length line + length ps + 1 ≤ 2 ^ 80
       → side_taken unlimited s q ≡ record { side = accepted_into s w; answers = early_answers (is_early r q) q; uses = true }
   unfolding accept_side used_at
   takes here room = go (nat_lt r (reach_past r all))

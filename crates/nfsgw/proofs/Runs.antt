@@ -3,13 +3,16 @@ use Rattle.std.proofs.Common.{◌≡◌, ◌≢◌, ℕ, ◌+◌, ◌<◌, Bool,
 use Rattle.std.specs.declared.option.Option.{Option}
 use Rattle.std.specs.Io.KnownBytes.{Consumes}
 use Rattle.std.proofs.KnownBytes.{Appends-nil, Appends-trans, Consumes-trans, Consumes-nil}
-use Rattle.gw_model.specs.Ahead.{Called, Good, Bad}
+use Rattle.gw_model.specs.Ahead.{Called}
 use Rattle.transcript.specs.Script.{Script, Stop, AtEnd, AtBad, AtOpen, script_from, line_then, then_script, stops, max_lines, TakesLine, IsPart, BeginsTooLong}
 use Rattle.transcript.specs.Writing.{IsPrefix}
 use Rattle.transcript.proofs.ScriptLaws.{script_takes, script_long, script_late, script_open}
 use Rattle.nfsgw.specs.Grammar.{read, reading_of, line_of}
-use Rattle.nfsgw.specs.Headline.{Outside, Traffic, Moves, Fails, failed_count, nothing, script, ahead_of}
-use Rattle.nfsgw.specs.Steps.{State, initial, Step, Gone, gone_of, gone_then, onto, step_of}
+use Rattle.nfsgw.specs.Headline.{Outside, Traffic, Moves, nothing, script, ahead_of}
+use Rattle.nfsgw.proofs.Traffic.{Fails-trans}
+use Rattle.nfsgw.proofs.Doing.{onto-onto}
+use Rattle.nfsgw.specs.Links.{arrival, acts_of}
+use Rattle.nfsgw.specs.Steps.{Serving, idle, gone_of, gone_all, onto}
 use Rattle.nfsgw.specs.Progress.{Place, script_at, gone_from, Leads, Rests, Settles, IsFrontOf, GoesShort, Halts, IsTurn, Turns, IsEventTurn, beginning, Reached, Closes, IsShortOf, IsHalted, IsEnding, Ends}
 use Rattle.nfsgw.specs.declared.grammar.Event.{Event}
 use Rattle.nfsgw.specs.declared.grammar.Line.{Line}
@@ -26,14 +29,6 @@ both s t = record { taken = s.taken ++ t.taken; written = s.written ++ t.written
 abbrev pub reading : List ℕ → Traffic
 reading taken = record { taken = taken; written = []; put = []; calls = [] }
 
-failed_count-append : (a b : List Called) → failed_count (a ++ b) ≡ failed_count a + failed_count b
-failed_count-append [] b = omega arith
-failed_count-append (Good ∷ a) b = failed_count-append a b
-failed_count-append (Bad kept ∷ a) b = omega (arith, failed_count-append a b)
-
-Fails-trans : (s t : List Called) (a b c : ℕ) → Fails s a b → Fails t b c → Fails (s ++ t) a c
-Fails-trans s t a b c p q = omega (arith, failed_count-append s t, p, q)
-
 pub Moves-nil : (tells : Type 0) (o : Outside) → Moves tells o o nothing
 Moves-nil tells o = record { reads = Consumes-nil o.left; writes = Appends-nil o.held; puts = λ told. sym (append-nil o.body); fails = omega arith }
 
@@ -44,12 +39,6 @@ Moves-trans tells a b c s t p q = record {
   puts = λ told. q.puts told ∙ ap (λ x. x ++ t.put) (p.puts told) ∙ append_assoc a.body s.put t.put;
   fails = Fails-trans s.calls t.calls a.faults b.faults c.faults p.fails q.fails;
 }
-
-onto-onto : (t u p q : List ℕ) (gone : Gone) → onto t p (onto u q gone) ≡ onto (t ++ u) (p ++ q) gone
-onto-onto t u p q gone =
-    let text : t ++ (u ++ gone.text) ≡ (t ++ u) ++ gone.text = sym (append_assoc t u gone.text) in
-    let put : p ++ (q ++ gone.put) ≡ (p ++ q) ++ gone.put = sym (append_assoc p q gone.put) in
-    rw (text, put) refl
 
 -- one line
 
@@ -68,12 +57,7 @@ settles_bad here line bytes rest h t e = begins_as here.first here.before line b
 pub settles_long : (here : Place) (bytes : List ℕ) → BeginsTooLong bytes → Settles AtBad here bytes
 settles_long here bytes b more = script_long read here.first here.before bytes more b
 
--- a front of what a step puts is a front of what it and the later ones put
-cut_front : (stopped : Bool) (n : Step) (later : Gone) (put : List ℕ) → IsPrefix put n.put → IsPrefix put (gone_then stopped n later).put
-cut_front true n later put f = f
-cut_front false n later put f = (f.0 ++ later.put, ap (λ x. x ++ later.put) f.1 ∙ append_assoc put f.0 later.put)
-
-module _ (tells : Type 0) (state new : State) (first : Bool) (k : ℕ) (pending taken line rest : List ℕ) (event : Event)
+module _ (tells : Type 0) (state new : Serving) (first : Bool) (k : ℕ) (pending taken line rest : List ℕ) (event : Event)
     (h : k < max_lines) (t : TakesLine line (pending ++ taken) rest) (e : line_of first line ≡ Some (Go event)) where
   abbrev after_line : List ℕ → Script Event
   after_line more = script_from read false (k + 1) (rest ++ more)
@@ -83,10 +67,6 @@ module _ (tells : Type 0) (state new : State) (first : Bool) (k : ℕ) (pending 
 
   here_cut : script_from read first k (pending ++ taken) ≡ then_script event (after_line [])
   here_cut = ap (script_from read first k) (sym (append-nil (pending ++ taken))) ∙ here_script []
-
-  stepped : (body : List ℕ) (events : List Event) (calls : List Called) (n : Step) → step_of body state event (ahead_of calls) ≡ n
-      → gone_of body state (event ∷ events) (ahead_of calls) ≡ gone_then n.stopped n (gone_of (body ++ n.put) n.state events n.ahead)
-  stepped body events calls n s = ap (λ n. gone_then n.stopped n (gone_of (body ++ n.put) n.state events n.ahead)) s
 
   pub event_turn : (is : Turn) (left left' held held' : Option (List ℕ)) (body body' : List ℕ) (faults faults' : ℕ) → Consumes left left' taken
       → IsEventTurn tells is event state new held held' body body' faults faults'
@@ -100,8 +80,9 @@ module _ (tells : Type 0) (state new : State) (first : Bool) (k : ℕ) (pending 
         turn_is = (
           refl,
           record {
-            gone = λ told more later. ap (λ x. gone_of body state x.events (ahead_of (s.calls ++ later))) (here_script more)
-                ∙ stepped body (after_line more).events (s.calls ++ later) (record { state = new; text = m.text; put = s.put; stopped = false; ahead = ahead_of later }) (s.next told later);
+            gone = λ told more later. ap (λ x. gone_all body state x.events (ahead_of (s.calls ++ later))) (here_script more)
+                ∙ s.next told (acts_of (arrival state.front event).front (after_line more).events) later
+                ∙ ap (λ f. onto m.text s.put (gone_of (body ++ s.put) new.state (acts_of f (after_line more).events) (ahead_of later))) (sym m.front);
             stop = λ more. ap (λ x. x.stop) (here_script more);
             count = λ more. ap (λ x. length x.events + k) (here_script more) ∙ omega arith;
           },
@@ -114,9 +95,9 @@ module _ (tells : Type 0) (state new : State) (first : Bool) (k : ℕ) (pending 
         moves = record { reads = r; writes = w.1; puts = s.puts; fails = s.fails };
         later = s.later;
         turn_is = λ told later.
-            let after = gone_of (body ++ s.put) new (after_line []).events (ahead_of later) in
-            let whole = ap (λ x. gone_of body state x.events (ahead_of (s.calls ++ later))) here_cut
-            ∙ stepped body (after_line []).events (s.calls ++ later) (record { state = new; text = m.text; put = s.put; stopped = false; ahead = ahead_of later }) (s.next told later) in
+            let after = gone_of (body ++ s.put) new.state (acts_of (arrival state.front event).front (after_line []).events) (ahead_of later) in
+            let whole = ap (λ x. gone_all body state x.events (ahead_of (s.calls ++ later))) here_cut
+            ∙ s.next told (acts_of (arrival state.front event).front (after_line []).events) later in
             ((w.2.0 ++ after.text, ap (λ x. x.text) whole ∙ ap (λ x. x ++ after.text) w.2.1 ∙ append_assoc w.0 w.2.0 after.text), (after.put, ap (λ x. x.put) whole));
       }
   event_turn turn.StoreFault left left' held held' body body' faults faults' r m =
@@ -124,8 +105,7 @@ module _ (tells : Type 0) (state new : State) (first : Bool) (k : ℕ) (pending 
         traffic = record { taken = taken; written = []; put = s.put; calls = s.calls };
         moves = record { reads = r; writes = m.1; puts = s.puts; fails = s.fails };
         later = s.later;
-        turn_is = λ told. ap (λ x. gone_of body state x.events (ahead_of s.calls)) here_cut
-            ∙ stepped body (after_line []).events s.calls (record { state = new; text = []; put = s.put; stopped = true; ahead = ahead_of [] }) (ap (λ c. step_of body state event (ahead_of c)) (sym (append-nil s.calls)) ∙ s.next told []);
+        turn_is = λ told. ap (λ x. gone_all body state x.events (ahead_of s.calls)) here_cut ∙ s.next told (acts_of (arrival state.front event).front (after_line []).events);
       }
   event_turn turn.NoMemory left left' held held' body body' faults faults' r m =
       let s = m.0 in record {
@@ -133,10 +113,8 @@ module _ (tells : Type 0) (state new : State) (first : Bool) (k : ℕ) (pending 
         moves = record { reads = r; writes = m.1; puts = s.puts; fails = s.fails };
         later = s.later;
         turn_is = λ told later.
-            let n = step_of body state event (ahead_of (s.calls ++ later)) in
-            let after = gone_of (body ++ n.put) n.state (after_line []).events n.ahead in
-            let front = cut_front n.stopped n after s.put (s.front told later) in
-            ((_, refl), (front.0, ap (λ x. (gone_of body state x.events (ahead_of (s.calls ++ later))).put) here_cut ∙ front.1));
+            let front = s.front told (acts_of (arrival state.front event).front (after_line []).events) later in
+            ((_, refl), (front.0, ap (λ x. (gone_all body state x.events (ahead_of (s.calls ++ later))).put) here_cut ∙ front.1));
       }
   event_turn turn.Ended left left' held held' body body' faults faults' r m = absurd m
   event_turn turn.Bad left left' held held' body body' faults faults' r m = absurd m
@@ -180,10 +158,10 @@ compose tells body mid a b c s t same p q =
     let between : (more : List ℕ) → script_at b (b.pending ++ (t.taken ++ more)) ≡ script_at b ((b.pending ++ t.taken) ++ more) = λ more. ap (script_at b) (sym (append_assoc b.pending t.taken more)) in
     let after : tells → mid ++ t.put ≡ body ++ (s.put ++ t.put) = λ told. ap (λ x. x ++ t.put) (same told) ∙ append_assoc body s.put t.put in
     record {
-      gone = λ told more later. ap (λ x. gone_of body a.state x.events (ahead_of ((s.calls ++ t.calls) ++ later))) (before more)
-          ∙ ap (λ o. gone_of body a.state (script_at a (a.pending ++ s.taken ++ (t.taken ++ more))).events (ahead_of o)) (append_assoc s.calls t.calls later)
+      gone = λ told more later. ap (λ x. gone_all body a.state x.events (ahead_of ((s.calls ++ t.calls) ++ later))) (before more)
+          ∙ ap (λ o. gone_all body a.state (script_at a (a.pending ++ s.taken ++ (t.taken ++ more))).events (ahead_of o)) (append_assoc s.calls t.calls later)
           ∙ p.gone told (t.taken ++ more) (t.calls ++ later)
-          ∙ ap (λ x. onto s.written s.put (gone_of (body ++ s.put) b.state x.events (ahead_of (t.calls ++ later)))) (between more)
+          ∙ ap (λ x. onto s.written s.put (gone_all (body ++ s.put) b.state x.events (ahead_of (t.calls ++ later)))) (between more)
           ∙ ap (λ x. onto s.written s.put (gone_from x b ((b.pending ++ t.taken) ++ more) (t.calls ++ later))) (sym (same told))
           ∙ ap (λ x. onto s.written s.put x) (q.gone told more later)
           ∙ onto-onto s.written t.written s.put t.put (gone_from (mid ++ t.put) c (c.pending ++ more) later)
@@ -210,8 +188,8 @@ module _ (tells : Type 0) (body : List ℕ) (here : Place) (s t : Traffic) (p : 
       let before : script ((s.taken ++ t.taken) ++ more) ≡ script (s.taken ++ (t.taken ++ more)) = ap script (append_assoc s.taken t.taken more) in
       let there : script_at here (here.pending ++ (t.taken ++ more)) ≡ stops stop = ap (script_at here) (sym (append_assoc here.pending t.taken more)) ∙ e in
       rw (w, u, o, append-nil, append-nil, append-nil) (record {
-        gone = λ told later. ap (λ x. gone_of body initial x.events (ahead_of (s.calls ++ later))) before ∙ p.gone told (t.taken ++ more) later
-            ∙ ap (λ x. onto s.written s.put (gone_of (body ++ s.put) here.state x.events (ahead_of later))) there;
+        gone = λ told later. ap (λ x. gone_all body idle x.events (ahead_of (s.calls ++ later))) before ∙ p.gone told (t.taken ++ more) later
+            ∙ ap (λ x. onto s.written s.put (gone_all (body ++ s.put) here.state x.events (ahead_of later))) there;
         stopped = ap (λ x. x.stop) before ∙ p.stop (t.taken ++ more) ∙ ap (λ x. x.stop) there;
         count = let n = ap (λ x. length x.events + 0) before ∙ p.count (t.taken ++ more) ∙ ap (λ x. length x.events + here.before) there in omega (arith, n);
       })
@@ -228,8 +206,8 @@ module _ (tells : Type 0) (body : List ℕ) (here : Place) (s t : Traffic) (p : 
     short_ends : GoesShort tells mid here t → IsShortOf tells body (s.taken ++ t.taken) (both s t)
     short_ends g = λ told later.
         let after = gone_from (body ++ s.put) here (here.pending ++ t.taken) (t.calls ++ later) in
-        let whole : gone_of body initial (script (s.taken ++ t.taken)).events (ahead_of ((s.calls ++ t.calls) ++ later)) ≡ onto s.written s.put after
-        = ap (λ o. gone_of body initial (script (s.taken ++ t.taken)).events (ahead_of o)) (append_assoc s.calls t.calls later) ∙ p.gone told t.taken (t.calls ++ later) in
+        let whole : gone_all body idle (script (s.taken ++ t.taken)).events (ahead_of ((s.calls ++ t.calls) ++ later)) ≡ onto s.written s.put after
+        = ap (λ o. gone_all body idle (script (s.taken ++ t.taken)).events (ahead_of o)) (append_assoc s.calls t.calls later) ∙ p.gone told t.taken (t.calls ++ later) in
         let f = subst (λ x. IsFrontOf t (gone_from x here (here.pending ++ t.taken) (t.calls ++ later))) (same told) (g told later) in (
           (f.0.0, ap (λ x. x.text) whole ∙ ap (λ x. s.written ++ x) f.0.1 ∙ sym (append_assoc s.written t.written f.0.0)),
           (f.1.0, ap (λ x. x.put) whole ∙ ap (λ x. s.put ++ x) f.1.1 ∙ sym (append_assoc s.put t.put f.1.0)),

@@ -153,16 +153,16 @@ pub record Sends (s u : Side) (n : ℕ) : Type 0 where
   pub line : u.held.line ≡ s.held.line ++ more
   pub within : (m : ℕ) → s.seen.reach ≤ m → AreWithin m more
 
-module _ (s : Side) (n : ℕ) (h : SendsAll s n) (few : n + 1 ≤ 2 ^ 65) where
+module _ (s : Side) (n : ℕ) (h : SendsAll s n) (few : n + 1 ≤ 2 ^ 80) where
   sent : (seen : Seen) (held : Held) (moment : ℕ) (more : List Job) → held.line ≡ s.held.line → held.ready ≡ more → held.waiting ≡ [] → held.phase ≡ Live
       → AreUnstable more → NonePlaced more → ArePending seen.pending → length s.held.line + (length more + length seen.pending) ≤ n + 1 → ((m : ℕ) → s.seen.reach ≤ m → AreWithin m more)
       → Sends s (record { seen = seen; held = used_at unlimited moment held }) n
   unfolding used_at send_ready
   sent seen held moment more line ready waiting live jobs none pending count within =
-      let all : send (2 ^ 65) held.line held.ready ≡ record { line = s.held.line ++ more; ready = [] }
-      = ap (λ js. send (2 ^ 65) js held.ready) line ∙ ap (λ js. send (2 ^ 65) s.held.line js) ready ∙ send_all (2 ^ 65) s.held.line more none (omega (arith, count, few)) in
-      let line_is : (send (2 ^ 65) held.line held.ready).line ≡ s.held.line ++ more = ap (λ (l : Lists). l.line) all in
-      let ready_is : (send (2 ^ 65) held.line held.ready).ready ≡ [] = ap (λ (l : Lists). l.ready) all in
+      let all : send (2 ^ 80) held.line held.ready ≡ record { line = s.held.line ++ more; ready = [] }
+      = ap (λ js. send (2 ^ 80) js held.ready) line ∙ ap (λ js. send (2 ^ 80) s.held.line js) ready ∙ send_all (2 ^ 80) s.held.line more none (omega (arith, count, few)) in
+      let line_is : (send (2 ^ 80) held.line held.ready).line ≡ s.held.line ++ more = ap (λ (l : Lists). l.line) all in
+      let ready_is : (send (2 ^ 80) held.line held.ready).ready ≡ [] = ap (λ (l : Lists). l.ready) all in
       let many = ap length line_is ∙ length-append s.held.line more in
       record {
         sound = record {

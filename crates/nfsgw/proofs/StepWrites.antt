@@ -1,14 +1,11 @@
 -- What a WRITE and a turn come to, case by case.
 use Rattle.std.proofs.Common.{◌≡◌, ℕ, ◌+◌, ◌<◌, ◌≤◌, ◌↔◌, nat_le, nat_lt, Bool, true, false, Option, None, Some, List, [], ◌∷◌, ◌++◌, length, refl, sym, ◌∙◌, ap, subst, append-nil, ◌⊎◌, inl, inr, IfSome, Result, Ok, Err, IfOk, OnErr, arith}
 use Rattle.gw_outside.specs.Causes.{Rose}
-use Rattle.std.specs.Prelude.{◌^◌, ◌==◌, is_none, if◌then◌else◌}
-use Rattle.std.proofs.lemmas.Bool.{cases_lt}
-use Rattle.std.proofs.lemmas.Bool.Decides.{nat_tests}
-use Rattle.gw_model.specs.Order.{end_within}
+use Rattle.std.specs.Prelude.{◌==◌, if◌then◌else◌}
 use Rattle.gw_model.specs.Ahead.{Ahead, Called, Good, Bad, next_call}
 use Rattle.gw_model.specs.File as model
 use Rattle.gw_model.specs.File.{Answer, NotWritten, Wrote, Job, Side, Writer}
-use Rattle.gw_model.specs.Admission.{io, fbig}
+use Rattle.gw_model.specs.Admission.{io}
 use Rattle.gw_model.specs.Writer.{WriterStep}
 use Rattle.tickets.specs.Desk.{TicketId, DeskState, issued, answered, owed}
 use Rattle.tickets.specs.declared.answer.Answer.{Answer as AnswerTerm}
@@ -19,12 +16,12 @@ use Rattle.tickets.specs.declared.desk.Sent.TheVariants as sent
 use Rattle.nfsgw.specs.Text.{reply_line}
 use Rattle.nfsgw.specs.Headline.{Fails, ahead_of}
 use Rattle.gw_model.specs.Sides.{side_write}
-use Rattle.nfsgw.specs.World.{Sent, send, told_to, spent, reply_bytes, request, unlimited}
-use Rattle.nfsgw.specs.Steps.{Context, State, Step, fresh, says, placed, write_if, put_by, with_line, turn_line, turn_of, step_of}
+use Rattle.nfsgw.specs.World.{Sent, send, told_to, text_to, spent, reply_bytes, request, unlimited}
+use Rattle.nfsgw.specs.Steps.{Context, State, Step, fresh, says, placed, write_in, put_by, with_line, turn_line, turn_of, step_of}
 use Rattle.nfsgw.specs.Answers.{answer_of, body_of, level_of, IsWrite, IsDone, Placed, Works}
-use Rattle.nfsgw.specs.Outside.{IsStep, IsCut, IsOpened, Took, TakesIn}
+use Rattle.nfsgw.specs.Outside.{IsStep, IsCut, IsQuiet, IsOpened, Took, TakesIn}
 use Rattle.nfsgw.specs.declared.call.WriteCall.{WriteCall}
-use Rattle.nfsgw.specs.declared.grammar.Event.TheVariants.{Write, Turn}
+use Rattle.nfsgw.specs.Acts.{Says, Writes, Turns}
 
 -- answers
 
@@ -74,22 +71,22 @@ replied (Some t) result given conn xid b some none is =
 pub unanswered : (o : Option TicketId) (result : SentTerm) (b : model.Body) → ((result ≡ sent.Cancelled) ↔ (o ≡ None)) → result ≡ sent.Cancelled → line_for o b ≡ []
 unanswered o result b none is = ap (λ x. line_for x b) (none.0 is)
 
+-- a reply at once
+
+-- what a desk answers to a text where the number waits
+pub text_said : (o : Option TicketId) (result : SentTerm) (given : Body) (conn xid : ℕ) (reply : List ℕ) (bytes text : List ℕ) → IfSome o (λ t. result ≡ sent.Reply t.conn t.xid given) → ((result ≡ sent.Cancelled) ↔ (o ≡ None))
+    → (b : Body) → result ≡ sent.Reply conn xid b → (b ≡ given → bytes ≡ reply) → text ≡ reply_line conn bytes → text ≡ text_to o reply
+text_said None result given conn xid reply bytes text some none b is same said = absurd (cc (none.1 refl, is))
+text_said (Some t) result given conn xid reply bytes text some none b is same said =
+    let same_reply : sent.Reply conn xid b ≡ sent.Reply t.conn t.xid given = sym is ∙ some in
+    let c : conn ≡ t.conn = cc in
+    let bytes_are : bytes ≡ reply = same cc in
+    said ∙ ap (λ k. reply_line k bytes) c ∙ ap (reply_line t.conn) bytes_are
+
+pub text_unsaid : (o : Option TicketId) (result : SentTerm) (reply : List ℕ) → ((result ≡ sent.Cancelled) ↔ (o ≡ None)) → result ≡ sent.Cancelled → [] ≡ text_to o reply
+text_unsaid o result reply none is = sym (ap (λ x. text_to x reply) (none.0 is))
+
 -- WRITE
-
--- no end below 2 ^ 63
-pub past_end : (offset count : ℕ) → is_none (end_within offset count) ≡ true → 2 ^ 63 ≤ offset + count
-past_end offset count e = go (cases_lt (offset + count) (2 ^ 63))
-  where
-    go : (offset + count < 2 ^ 63) ⊎ (2 ^ 63 ≤ offset + count) → 2 ^ 63 ≤ offset + count
-    go (inr h) = h
-    go (inl h) = let yes : nat_lt (offset + count) (2 ^ 63) ≡ true = grind (arith, nat_tests) in absurd (cc (rw yes at e))
-
-pub below_end : (offset count : ℕ) → is_none (end_within offset count) ≡ false → offset + count < 2 ^ 63
-below_end offset count e = go (cases_lt (offset + count) (2 ^ 63))
-  where
-    go : (offset + count < 2 ^ 63) ⊎ (2 ^ 63 ≤ offset + count) → offset + count < 2 ^ 63
-    go (inl h) = h
-    go (inr h) = let no : nat_lt (offset + count) (2 ^ 63) ≡ false = grind (arith, nat_tests) in absurd (cc (rw no at e))
 
 module _ (tells : Type 0) (conn : ℕ) (call : WriteCall) (old : State) where
   abbrev ticket : ℕ
@@ -98,102 +95,83 @@ module _ (tells : Type 0) (conn : ℕ) (call : WriteCall) (old : State) where
   abbrev asked : DeskState
   asked = issued conn call.xid old.desk
 
-  write_is : (b : Bool) (content : List ℕ) (t : Ahead) → nat_le (2 ^ 63) (call.offset + length call.content) ≡ b
-      → step_of content old (Write conn call) t ≡ write_if b old.opened (length content) (request ticket call) asked t
+  write_is : (content : List ℕ) (t : Ahead) → step_of content old (Writes conn call) t ≡ write_in old.opened (length content) (request ticket call) asked t
   unfolding step_of
-  write_is b content t e = ap (λ x. write_if x old.opened (length content) (request ticket call) asked t) e
+  write_is content t = refl
 
   abbrev refusal : ℕ → List Answer
   refusal status = record { ticket = ticket; body = NotWritten status } ∷ []
 
-  pub write_big : (new : State) (text body body' : List ℕ) (faults faults' : ℕ) → 2 ^ 63 ≤ call.offset + length call.content
-      → new ≡ record { opened = old.opened; desk = (send asked (refusal fbig)).desk } → text ≡ (send asked (refusal fbig)).text → body' ≡ body → faults' ≡ faults
-      → IsStep tells (Write conn call) old new text false body body' faults faults'
-  write_big new text body body' faults faults' h is said same count =
-      let big : nat_le (2 ^ 63) (call.offset + length call.content) ≡ true = grind (arith, nat_tests) in
-      record {
-        calls = [];
+  -- the body couldn't be taken
+  pub write_lost : (mid new : State) (text body body' : List ℕ) (faults faults' : ℕ) → IsOpened tells false old.opened asked mid body body' faults faults'
+      → new ≡ record mid { desk = (send mid.desk (refusal io)).desk } → text ≡ (send mid.desk (refusal io)).text
+      → IsStep tells (Writes conn call) old new text false body body' faults faults'
+  write_lost mid new text body body' faults faults' o is said = by old.opened refl o
+    where
+      lost : (kept : ℕ) (opened : Option Context) → old.opened ≡ None → mid.opened ≡ None → mid.desk ≡ asked → Fails (Bad kept ∷ []) faults faults' → faults ≤ faults' → (tells → body' ≡ body) → IsStep tells (Writes conn call) old new text false body body' faults faults'
+      lost kept opened closed none same fails later puts = record {
+        calls = Bad kept ∷ [];
         put = [];
-        next = λ told later. write_is true body (ahead_of later) big ∙ rw (is, said) refl;
-        puts = λ told. same ∙ sym (append-nil body);
-        fails = omega (arith, count);
-        later = omega (arith, count);
+        next = λ told more.
+            write_is body (ahead_of (Bad kept ∷ more))
+            ∙ ap (λ c. write_in c (length body) (request ticket call) asked (ahead_of (Bad kept ∷ more))) closed
+            ∙ sym (rw (is, said, none, same) refl);
+        puts = λ told. puts told ∙ sym (append-nil body);
+        fails = fails;
+        later = later;
       }
 
-  module _ (h : call.offset + length call.content < 2 ^ 63) where
-    small : nat_le (2 ^ 63) (call.offset + length call.content) ≡ false
-    small = grind (arith, nat_tests)
+      went : (called : Called) (opened : Option Context) → Took tells false called opened body → old.opened ≡ None → mid.opened ≡ opened → mid.desk ≡ asked → Fails (called ∷ []) faults faults' → faults ≤ faults' → (tells → body' ≡ body) → IsStep tells (Writes conn call) old new text false body body' faults faults'
+      went (Bad kept) None t closed none same fails later puts = lost kept None closed none same fails later puts
+      went (Bad kept) (Some c) t closed none same fails later puts = absurd t
+      went Good None t closed none same fails later puts = absurd t
+      went Good (Some c) t closed none same fails later puts = absurd t
 
-    -- the body couldn't be taken
-    pub write_lost : (mid new : State) (text body body' : List ℕ) (faults faults' : ℕ) → IsOpened tells false old.opened asked mid body body' faults faults'
-        → new ≡ record mid { desk = (send mid.desk (refusal io)).desk } → text ≡ (send mid.desk (refusal io)).text
-        → IsStep tells (Write conn call) old new text false body body' faults faults'
-    write_lost mid new text body body' faults faults' o is said = by old.opened refl o
-      where
-        lost : (kept : ℕ) (opened : Option Context) → old.opened ≡ None → mid.opened ≡ None → mid.desk ≡ asked → Fails (Bad kept ∷ []) faults faults' → faults ≤ faults' → (tells → body' ≡ body) → IsStep tells (Write conn call) old new text false body body' faults faults'
-        lost kept opened closed none same fails later puts = record {
-          calls = Bad kept ∷ [];
-          put = [];
-          next = λ told more.
-              write_is false body (ahead_of (Bad kept ∷ more)) small
-              ∙ ap (λ c. write_if false c (length body) (request ticket call) asked (ahead_of (Bad kept ∷ more))) closed
-              ∙ sym (rw (is, said, none, same) refl);
-          puts = λ told. puts told ∙ sym (append-nil body);
-          fails = fails;
-          later = later;
-        }
+      by : (opened : Option Context) → old.opened ≡ opened → IsOpened tells false opened asked mid body body' faults faults' → IsStep tells (Writes conn call) old new text false body body' faults faults'
+      by (Some c) e o = cc o.0
+      by None e o = went o.called mid.opened o.took e refl o.same o.fails o.later o.puts
 
-        went : (called : Called) (opened : Option Context) → Took tells false called opened body → old.opened ≡ None → mid.opened ≡ opened → mid.desk ≡ asked → Fails (called ∷ []) faults faults' → faults ≤ faults' → (tells → body' ≡ body) → IsStep tells (Write conn call) old new text false body body' faults faults'
-        went (Bad kept) None t closed none same fails later puts = lost kept None closed none same fails later puts
-        went (Bad kept) (Some c) t closed none same fails later puts = absurd t
-        went Good None t closed none same fails later puts = absurd t
-        went Good (Some c) t closed none same fails later puts = absurd t
+  -- the file is open, and the write is taken in
+  pub write_taken : (mid new : State) (text body body' : List ℕ) (faults faults' : ℕ) → IsOpened tells true old.opened asked mid body body' faults faults'
+      → TakesIn ticket call mid.opened mid.desk new text → IsStep tells (Writes conn call) old new text false body body' faults faults'
+  write_taken mid new text body body' faults faults' o takes = by old.opened refl o
+    where
+      stays : (c : Context) → old.opened ≡ Some c → mid ≡ record { opened = Some c; desk = asked } → (tells → body' ≡ body) → faults ≤ faults' → IsStep tells (Writes conn call) old new text false body body' faults faults'
+      stays c e is puts later =
+          let placed_is : TakesIn ticket call (Some c) asked new text = subst (λ (m : State). TakesIn ticket call m.opened m.desk new text) is takes in
+          record {
+            calls = [];
+            put = [];
+            next = λ told more. write_is body (ahead_of more) ∙ ap (λ x. write_in x (length body) (request ticket call) asked (ahead_of more)) e ∙ placed_is (ahead_of more);
+            puts = λ told. puts told ∙ sym (append-nil body);
+            fails = omega (arith, later);
+            later = later;
+          }
 
-        by : (opened : Option Context) → old.opened ≡ opened → IsOpened tells false opened asked mid body body' faults faults' → IsStep tells (Write conn call) old new text false body body' faults faults'
-        by (Some c) e o = cc o.0
-        by None e o = went o.called mid.opened o.took e refl o.same o.fails o.later o.puts
+      taken : (c : Context) → old.opened ≡ None → mid.opened ≡ Some c → mid.desk ≡ asked → (tells → c ≡ fresh (length body)) → Fails (Good ∷ []) faults faults' → faults ≤ faults' → (tells → body' ≡ body) → IsStep tells (Writes conn call) old new text false body body' faults faults'
+      taken c closed some same fresh fails later puts =
+          let at_c : TakesIn ticket call (Some c) asked new text = subst (λ o. TakesIn ticket call o asked new text) some (subst (λ k. TakesIn ticket call mid.opened k new text) same takes) in
+          record {
+            calls = Good ∷ [];
+            put = [];
+            next = λ told more.
+                write_is body (ahead_of (Good ∷ more))
+                ∙ ap (λ x. write_in x (length body) (request ticket call) asked (ahead_of (Good ∷ more))) closed
+                ∙ ap (λ x. placed (request ticket call) x asked (ahead_of more)) (sym (fresh told)) ∙ at_c (ahead_of more);
+            puts = λ told. puts told ∙ sym (append-nil body);
+            fails = fails;
+            later = later;
+          }
 
-    -- the file is open, and the write is taken in
-    pub write_taken : (mid new : State) (text body body' : List ℕ) (faults faults' : ℕ) → IsOpened tells true old.opened asked mid body body' faults faults'
-        → TakesIn ticket call mid.opened mid.desk new text → IsStep tells (Write conn call) old new text false body body' faults faults'
-    write_taken mid new text body body' faults faults' o takes = by old.opened refl o
-      where
-        stays : (c : Context) → old.opened ≡ Some c → mid ≡ record { opened = Some c; desk = asked } → (tells → body' ≡ body) → faults ≤ faults' → IsStep tells (Write conn call) old new text false body body' faults faults'
-        stays c e is puts later =
-            let placed_is : TakesIn ticket call (Some c) asked new text = subst (λ (m : State). TakesIn ticket call m.opened m.desk new text) is takes in
-            record {
-              calls = [];
-              put = [];
-              next = λ told more. write_is false body (ahead_of more) small ∙ ap (λ x. write_if false x (length body) (request ticket call) asked (ahead_of more)) e ∙ placed_is (ahead_of more);
-              puts = λ told. puts told ∙ sym (append-nil body);
-              fails = omega (arith, later);
-              later = later;
-            }
+      went : (called : Called) (opened : Option Context) → Took tells true called opened body → old.opened ≡ None → mid.opened ≡ opened → mid.desk ≡ asked → Fails (called ∷ []) faults faults' → faults ≤ faults' → (tells → body' ≡ body) → IsStep tells (Writes conn call) old new text false body body' faults faults'
+      went Good (Some c) t closed some same fails later puts = taken c closed some same t fails later puts
+      went Good None t closed some same fails later puts = absurd t
+      went (Bad kept) None t closed some same fails later puts = absurd t
+      went (Bad kept) (Some c) t closed some same fails later puts = absurd t
 
-        taken : (c : Context) → old.opened ≡ None → mid.opened ≡ Some c → mid.desk ≡ asked → (tells → c ≡ fresh (length body)) → Fails (Good ∷ []) faults faults' → faults ≤ faults' → (tells → body' ≡ body) → IsStep tells (Write conn call) old new text false body body' faults faults'
-        taken c closed some same fresh fails later puts =
-            let at_c : TakesIn ticket call (Some c) asked new text = subst (λ o. TakesIn ticket call o asked new text) some (subst (λ k. TakesIn ticket call mid.opened k new text) same takes) in
-            record {
-              calls = Good ∷ [];
-              put = [];
-              next = λ told more.
-                  write_is false body (ahead_of (Good ∷ more)) small
-                  ∙ ap (λ x. write_if false x (length body) (request ticket call) asked (ahead_of (Good ∷ more))) closed
-                  ∙ ap (λ x. placed (request ticket call) x asked (ahead_of more)) (sym (fresh told)) ∙ at_c (ahead_of more);
-              puts = λ told. puts told ∙ sym (append-nil body);
-              fails = fails;
-              later = later;
-            }
-
-        went : (called : Called) (opened : Option Context) → Took tells true called opened body → old.opened ≡ None → mid.opened ≡ opened → mid.desk ≡ asked → Fails (called ∷ []) faults faults' → faults ≤ faults' → (tells → body' ≡ body) → IsStep tells (Write conn call) old new text false body body' faults faults'
-        went Good (Some c) t closed some same fails later puts = taken c closed some same t fails later puts
-        went Good None t closed some same fails later puts = absurd t
-        went (Bad kept) None t closed some same fails later puts = absurd t
-        went (Bad kept) (Some c) t closed some same fails later puts = absurd t
-
-        by : (opened : Option Context) → old.opened ≡ opened → IsOpened tells true opened asked mid body body' faults faults' → IsStep tells (Write conn call) old new text false body body' faults faults'
-        by (Some c) e o = stays c e o.1 o.2 o.3
-        by None e o = went o.called mid.opened o.took e refl o.same o.fails o.later o.puts
+      by : (opened : Option Context) → old.opened ≡ opened → IsOpened tells true opened asked mid body body' faults faults' → IsStep tells (Writes conn call) old new text false body body' faults faults'
+      by (Some c) e o = stays c e o.1 o.2 o.3
+      by None e o = went o.called mid.opened o.took e refl o.same o.fails o.later o.puts
 
 -- a turn
 
@@ -228,7 +206,7 @@ none_done tells c content faults line = record {
 -- the turn of an open file, as an event
 pub turn_steps : (tells : Type 0) (old new : State) (c d : Context) (answers : List Answer) (text body body' : List ℕ) (faults faults' : ℕ) → old.opened ≡ Some c → IsDone tells c d answers body body' faults faults'
     → new ≡ record { opened = Some d; desk = (send old.desk answers).desk } → text ≡ (send old.desk answers).text
-    → IsStep tells Turn old new text false body body' faults faults'
+    → IsStep tells Turns old new text false body body' faults faults'
 unfolding step_of
 turn_steps tells old new c d answers text body body' faults faults' there done is said = record {
   calls = done.calls;
@@ -242,7 +220,7 @@ turn_steps tells old new c d answers text body body' faults faults' there done i
 
 -- its text couldn't be written
 pub turn_cut : (tells : Type 0) (old : State) (c d : Context) (answers : List Answer) (body body' : List ℕ) (faults faults' : ℕ) → old.opened ≡ Some c → IsDone tells c d answers body body' faults faults'
-    → IsCut tells Turn old body body' faults faults'
+    → IsCut tells Turns old body body' faults faults'
 unfolding step_of
 turn_cut tells old c d answers body body' faults faults' there done = record {
   calls = done.calls;
@@ -254,7 +232,7 @@ turn_cut tells old c d answers body body' faults faults' there done = record {
 }
 
 -- no file is open
-pub turn_closed : (tells : Type 0) (old : State) (body : List ℕ) (faults : ℕ) → old.opened ≡ None → IsStep tells Turn old old [] false body body faults faults
+pub turn_closed : (tells : Type 0) (old : State) (body : List ℕ) (faults : ℕ) → old.opened ≡ None → IsStep tells Turns old old [] false body body faults faults
 unfolding step_of
 turn_closed tells old body faults closed = record {
   calls = [];

@@ -1,13 +1,11 @@
--- The lines of a transcript of in-order writes.
+-- The lines of a transcript: pieces of what connections send, and what befalls the file.
 use Rattle.std.specs.Prelude.{◌≡◌, ◌≢◌, ℕ, ◌+◌, ◌^◌, ◌<◌, ◌≤◌, ◌==◌, ◌&&◌, Bool, true, false, not, if◌then◌else◌, nat_lt, nat_le, nat_eq, List, ◌∷◌, ◌++◌, length, take, drop, codes, position, decimal, bytes_eq, Option, Some, None, Ok}
 use Rattle.std.specs.List.{starts_with, AllPass, list_all}
 use Rattle.hex.specs.Hex.{decode_of}
 use Rattle.transcript.specs.Fields.{number_of, bytes_of}
 use Rattle.transcript.specs.Script.{Reading, Last, Goes, Refused}
-use Rattle.nfsgw.specs.Call.{IsCall, call_of}
-use Rattle.nfsgw.specs.declared.call.WriteCall.{WriteCall}
 use Rattle.nfsgw.specs.declared.grammar.Event.{Event}
-use Rattle.nfsgw.specs.declared.grammar.Event.TheVariants.{MakeFile, Write, Turn}
+use Rattle.nfsgw.specs.declared.grammar.Event.TheVariants.{MakeFile, Bytes, Turn}
 use Rattle.nfsgw.specs.declared.grammar.Line.{Line}
 use Rattle.nfsgw.specs.declared.grammar.Line.TheVariants.{Go, End}
 
@@ -23,45 +21,37 @@ pub record IsName (name : List ℕ) : Type 0 where
   pub no_dot : name ≢ codes "."
   pub no_dots : name ≢ codes ".."
 
--- The grammar: the texts of each line. The first line makes the file. Numbers are as they are printed, without leading zeros.
+-- The grammar: the texts of each line, where it says whether it is the first. Only the first can make the file. A piece is
+-- any bytes, at least one, in hex digits of either case. Numbers are as they are printed, without leading zeros.
 abbrev pub IsLine : Bool → List ℕ → Line → Type 0
-IsLine true text (Go MakeFile) = (name : List ℕ) × (text ≡ codes "file " ++ name) × IsName name
-IsLine false text (Go (Write conn call)) =
-    (hex bytes : List ℕ) × (text ≡ codes "bytes " ++ decimal conn ++ 32 ∷ hex) × (conn < 2 ^ 32) × (decode_of hex ≡ Ok bytes) × IsCall bytes call
-IsLine false text (Go Turn) = text ≡ codes "turn 4"
-IsLine false text End = text ≡ codes "end"
-IsLine _ text _ = ⊥
+IsLine first text (Go MakeFile) = (name : List ℕ) × (first ≡ true) × (text ≡ codes "file " ++ name) × IsName name
+IsLine _ text (Go (Bytes conn bytes)) =
+    (hex : List ℕ) × (text ≡ codes "bytes " ++ decimal conn ++ 32 ∷ hex) × (conn < 2 ^ 32) × (decode_of hex ≡ Ok bytes) × (0 < length bytes)
+IsLine _ text (Go Turn) = text ≡ codes "turn 4"
+IsLine _ text End = text ≡ codes "end"
 
 unfoldable pub is_name : List ℕ → Bool
 is_name name = nat_lt 0 (length name) && nat_le (length name) 255 && list_all in_name name && not (bytes_eq name (codes ".")) && not (bytes_eq name (codes ".."))
 
-abbrev pub write_line : ℕ → Option WriteCall → Option Line
-write_line conn None = None
-write_line conn (Some call) = Some (Go (Write conn call))
-
-abbrev pub call_in : Option ℕ → Option (List ℕ) → Option Line
-call_in (Some conn) (Some bytes) = write_line conn (call_of bytes)
-call_in _ _ = None
+abbrev pub piece_in : Option ℕ → Option (List ℕ) → Option Line
+piece_in (Some conn) (Some bytes) = Some (Go (Bytes conn bytes))
+piece_in _ _ = None
 
 -- what follows `bytes `, cut at its first space
 abbrev pub bytes_line : List ℕ → Option ℕ → Option Line
 bytes_line text None = None
-bytes_line text (Some i) = call_in (number_of 32 (take i text)) (bytes_of (drop (i + 1) text))
+bytes_line text (Some i) = piece_in (number_of 32 (take i text)) (bytes_of (drop (i + 1) text))
 
-abbrev pub first_line : List ℕ → Option Line
-first_line text = if starts_with nat_eq text (codes "file ") && is_name (drop 5 text) then Some (Go MakeFile) else None
-
-abbrev pub later_line : List ℕ → Option Line
-later_line text =
-    if bytes_eq text (codes "end") then Some End
-    else if bytes_eq text (codes "turn 4") then Some (Go Turn)
-    else if starts_with nat_eq text (codes "bytes ") then bytes_line (drop 6 text) (position (λ b. b == 32) (drop 6 text))
-    else None
+abbrev pub file_line : Bool → List ℕ → Option Line
+file_line first text = if first && starts_with nat_eq text (codes "file ") && is_name (drop 5 text) then Some (Go MakeFile) else None
 
 -- The same as a function: the line that a text is, if it is one, as the first or as a later one.
 unfoldable pub line_of : Bool → List ℕ → Option Line
-line_of true text = first_line text
-line_of false text = later_line text
+line_of first text =
+    if bytes_eq text (codes "end") then Some End
+    else if bytes_eq text (codes "turn 4") then Some (Go Turn)
+    else if starts_with nat_eq text (codes "bytes ") then bytes_line (drop 6 text) (position (λ b. b == 32) (drop 6 text))
+    else file_line first text
 
 -- what a line leaves of the grammar: whether the next one is the first
 abbrev pub reading_of : Option Line → Reading Bool Event

@@ -5,6 +5,7 @@ use Rattle.gw_model.specs.Ahead.{Ahead, Outcome, Done, Failed, Called, Good, Bad
 use Rattle.transcript.specs.Script.{Script, script as script_by, AtEnd, AtOpen}
 use Rattle.transcript.specs.Writing.{IsPrefix}
 use Rattle.nfsgw.specs.Grammar.{read}
+use Rattle.nfsgw.specs.Links.{no_links, acts_of}
 use Rattle.nfsgw.specs.World.{Told, told_of, start}
 use Rattle.nfsgw.specs.declared.grammar.Event.{Event}
 use Rattle.nfsgw.specs.declared.status.Status.{Status}
@@ -58,7 +59,7 @@ script bytes = script_by read true bytes
 
 -- all that comes of a transcript, over a body that holds these bytes at first
 abbrev pub output : List ℕ → List ℕ → List Called → Told
-output body bytes calls = told_of (start body) (script bytes).events (ahead_of calls)
+output body bytes calls = told_of (start body) (acts_of no_links (script bytes).events) (ahead_of calls)
 
 -- Just this went out, the body holds what the definition says, and the calls are used up.
 pub record IsWhole (body bytes : List ℕ) (stopped : Bool) (traffic : Traffic) : Type 0 where

@@ -1,5 +1,10 @@
-pub mod Call
 pub mod Text
+pub mod Acts
+pub mod Messages
+pub mod Reading
+pub mod Requests
+pub mod Streams
+pub mod Links
 pub mod World
 pub mod Grammar
 pub mod Headline
@@ -8,6 +13,5 @@ pub mod Held
 pub mod Accepting
 pub mod Answers
 pub mod Outside
-pub mod Found
 pub mod Progress
 pub mod Ways

@@ -8,8 +8,9 @@ use Rattle.transcript.specs.Script.{Script, Stop, AtEnd, AtBad, AtOpen, stops, s
 use Rattle.transcript.specs.Writing.{IsPrefix, AppendsPrefix}
 use Rattle.nfsgw.specs.Grammar.{read}
 use Rattle.nfsgw.specs.Headline.{Outside, Traffic, Moves, script, ahead_of}
-use Rattle.nfsgw.specs.Steps.{State, initial, Gone, gone_of, gone_at_end, onto}
-use Rattle.nfsgw.specs.Outside.{Safe, Home, IsStep, IsCut}
+use Rattle.nfsgw.specs.Links.{arrival}
+use Rattle.nfsgw.specs.Steps.{Serving, idle, Gone, gone_all, gone_at_end, onto}
+use Rattle.nfsgw.specs.Outside.{Does, Stops, Cuts}
 use Rattle.nfsgw.specs.declared.grammar.Event.{Event}
 use Rattle.nfsgw.specs.declared.run.Turn.{Turn}
 use Rattle.nfsgw.specs.declared.run.Turn.TheVariants as turn
@@ -21,22 +22,17 @@ use Rattle.nfsgw.specs.declared.status.Status.TheVariants as status
 -- between two lines: what the program keeps, whether the first line comes next, how many lines came, and the bytes that
 -- were read and not used yet
 pub record Place : Type 0 where
-  pub state : State
+  pub state : Serving
   pub first : Bool
   pub before : ℕ
   pub pending : List ℕ
-
--- where the body is before the first line, and after it
-abbrev pub Stands : Type 0 → Bool → ObjectState → Option ObjectId → Type 0
-Stands tells true s mark = (mark ≡ None) × Safe tells s mark
-Stands tells false s mark = Home tells s mark
 
 abbrev pub script_at : Place → List ℕ → Script Event
 script_at here bytes = script_from read here.first here.before bytes
 
 -- over what the body holds there
 abbrev pub gone_from : List ℕ → Place → List ℕ → List Called → Gone
-gone_from body here bytes calls = gone_of body here.state (script_at here bytes).events (ahead_of calls)
+gone_from body here bytes calls = gone_all body here.state (script_at here bytes).events (ahead_of calls)
 
 -- Whatever bytes and calls come later, the lines from here on, over what the body holds here, come to this traffic and then
 -- to the lines from there on.
@@ -89,27 +85,28 @@ pub record Turns (tells : Type 0) (turn : Turn) (here there : Place) (before aft
   pub turn_is : IsTurn turn tells before.body here there traffic after.left
 
 -- one event
-pub record EventDone (tells : Type 0) (event : Event) (old new : State) (held held' : Option (List ℕ)) (body body' : List ℕ) (faults faults' : ℕ) : Type 0 where
+pub record EventDone (tells : Type 0) (event : Event) (old new : Serving) (held held' : Option (List ℕ)) (body body' : List ℕ) (faults faults' : ℕ) : Type 0 where
   pub text : List ℕ
-  pub step : IsStep tells event old new text false body body' faults faults'
+  pub front : new.front ≡ (arrival old.front event).front
+  pub step : Does tells (arrival old.front event).acts old.state new.state text body body' faults faults'
   pub writes : Appends held held' text
 
 -- one event, whose text was written in part
-pub record EventCut (tells : Type 0) (event : Event) (old new : State) (held held' : Option (List ℕ)) (body body' : List ℕ) (faults faults' : ℕ) : Type 0 where
+pub record EventCut (tells : Type 0) (event : Event) (old new : Serving) (held held' : Option (List ℕ)) (body body' : List ℕ) (faults faults' : ℕ) : Type 0 where
   pub text : List ℕ
-  pub step : IsStep tells event old new text false body body' faults faults'
+  pub step : Does tells (arrival old.front event).acts old.state new.state text body body' faults faults'
   pub writes : AppendsPrefix held held' text
 
-abbrev pub IsEventTurn : Type 0 → Turn → Event → State → State → Option (List ℕ) → Option (List ℕ) → List ℕ → List ℕ → ℕ → ℕ → Type 0
+abbrev pub IsEventTurn : Type 0 → Turn → Event → Serving → Serving → Option (List ℕ) → Option (List ℕ) → List ℕ → List ℕ → ℕ → ℕ → Type 0
 IsEventTurn tells turn.More event old new held held' body body' faults faults' = EventDone tells event old new held held' body body' faults faults'
 IsEventTurn tells turn.WriteFault event old new held held' body body' faults faults' = EventCut tells event old new held held' body body' faults faults'
-IsEventTurn tells turn.StoreFault event old new held held' body body' faults faults' = IsStep tells event old new [] true body body' faults faults' × Appends held held' []
-IsEventTurn tells turn.NoMemory event old new held held' body body' faults faults' = IsCut tells event old body body' faults faults' × Appends held held' []
+IsEventTurn tells turn.StoreFault event old new held held' body body' faults faults' = Stops tells (arrival old.front event).acts old.state body body' faults faults' × Appends held held' []
+IsEventTurn tells turn.NoMemory event old new held held' body body' faults faults' = Cuts tells (arrival old.front event).acts old.state body body' faults faults' × Appends held held' []
 IsEventTurn tells _ event old new held held' body body' faults faults' = ⊥
 
 -- the run so far, from the beginning
 abbrev pub beginning : Place
-beginning = record { state = initial; first = true; before = 0; pending = [] }
+beginning = record { state = idle; first = true; before = 0; pending = [] }
 
 pub record Reached (tells : Type 0) (there : Place) (before after : Outside) : Type 0 where
   pub traffic : Traffic
@@ -118,19 +115,19 @@ pub record Reached (tells : Type 0) (there : Place) (before after : Outside) : T
   pub leads : Leads tells before.body beginning there traffic
 
 -- all went out but the history
-pub record Closes (tells : Type 0) (body : List ℕ) (stop : Stop) (lines : ℕ) (bytes : List ℕ) (traffic : Traffic) (kept : State) : Type 0 where
-  pub gone : tells → (later : List Called) → gone_of body initial (script bytes).events (ahead_of (traffic.calls ++ later)) ≡ onto traffic.written traffic.put (gone_at_end kept (ahead_of later))
+pub record Closes (tells : Type 0) (body : List ℕ) (stop : Stop) (lines : ℕ) (bytes : List ℕ) (traffic : Traffic) (kept : Serving) : Type 0 where
+  pub gone : tells → (later : List Called) → gone_all body idle (script bytes).events (ahead_of (traffic.calls ++ later)) ≡ onto traffic.written traffic.put (gone_at_end kept.state (ahead_of later))
   pub stopped : (script bytes).stop ≡ stop
   pub count : length (script bytes).events ≡ lines
 
 abbrev pub IsShortOf : Type 0 → List ℕ → List ℕ → Traffic → Type 0
-IsShortOf tells body bytes traffic = tells → (later : List Called) → IsFrontOf traffic (gone_of body initial (script bytes).events (ahead_of (traffic.calls ++ later)))
+IsShortOf tells body bytes traffic = tells → (later : List Called) → IsFrontOf traffic (gone_all body idle (script bytes).events (ahead_of (traffic.calls ++ later)))
 
 abbrev pub IsHalted : Type 0 → List ℕ → List ℕ → Traffic → Type 0
-IsHalted tells body bytes traffic = tells → gone_of body initial (script bytes).events (ahead_of traffic.calls) ≡ stopped_with traffic
+IsHalted tells body bytes traffic = tells → gone_all body idle (script bytes).events (ahead_of traffic.calls) ≡ stopped_with traffic
 
 -- all lines, over what the body held, and what the program keeps then
-abbrev pub IsEnding : Turn → Type 0 → List ℕ → ℕ → Traffic → State → Option (List ℕ) → Type 0
+abbrev pub IsEnding : Turn → Type 0 → List ℕ → ℕ → Traffic → Serving → Option (List ℕ) → Type 0
 IsEnding turn.More tells body lines traffic state left = ⊥
 IsEnding turn.Ended tells body lines traffic state left = (more : List ℕ) → Closes tells body AtEnd lines (traffic.taken ++ more) traffic state
 IsEnding turn.Bad tells body lines traffic state left = (more : List ℕ) → Closes tells body AtBad lines (traffic.taken ++ more) traffic state
@@ -140,7 +137,7 @@ IsEnding turn.StoreFault tells body lines traffic state left = IsHalted tells bo
 IsEnding turn.WriteFault tells body lines traffic state left = IsShortOf tells body traffic.taken traffic
 IsEnding turn.NoMemory tells body lines traffic state left = IsShortOf tells body traffic.taken traffic
 
-pub record Ends (tells : Type 0) (turn : Turn) (lines : ℕ) (state : State) (before after : Outside) : Type 0 where
+pub record Ends (tells : Type 0) (turn : Turn) (lines : ℕ) (state : Serving) (before after : Outside) : Type 0 where
   pub traffic : Traffic
   pub moves : Moves tells before after traffic
   pub later : before.faults ≤ after.faults

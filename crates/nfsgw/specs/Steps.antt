@@ -1,16 +1,17 @@
--- What the program keeps of the world, and what each event makes of that: of a write that was put the range alone is kept.
-use Rattle.std.specs.Prelude.{ℕ, ◌+◌, ◌^◌, Bool, true, false, ◌&&◌, ◌||◌, List, [], ◌∷◌, ◌++◌, map, length, take, Option, Some, None, is_some, nat_le, nat_lt, if◌then◌else◌}
+-- What the program keeps of the world, and what each act makes of that: of a write that was put the range alone is kept.
+use Rattle.std.specs.Prelude.{ℕ, ◌+◌, ◌^◌, Bool, true, false, ◌&&◌, ◌||◌, List, [], ◌∷◌, ◌++◌, map, length, take, Option, Some, None, is_some, nat_lt, if◌then◌else◌}
 use Rattle.gw_model.specs.Ahead.{Ahead, Called, Good, Bad, next_call}
 use Rattle.gw_model.specs.File.{Task, Put, Job, NotWritten, Answer, Failure, Writer, Entry, Side}
-use Rattle.gw_model.specs.Admission.{io, fbig, WriteRequest}
+use Rattle.gw_model.specs.Admission.{io, WriteRequest}
 use Rattle.gw_model.specs.Sides.{side_opened, side_write}
 use Rattle.gw_model.specs.Writer.{do_job}
 use Rattle.gw_model.specs.Ending.{Fate, Lost, Stored, Open, WriteLine, History, Ended}
-use Rattle.tickets.specs.Desk.{DeskState, new_desk, issued}
-use Rattle.nfsgw.specs.Text.{history_text}
-use Rattle.nfsgw.specs.World.{send, unlimited, request}
+use Rattle.tickets.specs.Desk.{DeskState, new_desk, issued, cancelled}
+use Rattle.nfsgw.specs.Text.{closed_line, history_text}
+use Rattle.nfsgw.specs.World.{send, reply_now, unlimited, request}
 use Rattle.nfsgw.specs.declared.grammar.Event.{Event}
-use Rattle.nfsgw.specs.declared.grammar.Event.TheVariants.{MakeFile, Write, Turn}
+use Rattle.nfsgw.specs.Acts.{Act, Make, Says, Writes, Ends, Turns}
+use Rattle.nfsgw.specs.Links.{Front, no_links, acts_of}
 
 -- the context of the file: its length when it was opened, what the admission side sees and holds, and the writer
 pub record Context : Type 0 where
@@ -28,7 +29,7 @@ pub record State : Type 0 where
 abbrev pub initial : State
 initial = record { opened = None; desk = new_desk }
 
--- what an event leaves, what it writes, what it puts into the body, whether it ended the run, and the outcomes that are left
+-- what an act leaves, what it writes, what it puts into the body, whether it ended the run, and the outcomes that are left
 pub record Step : Type 0 where
   pub state : State
   pub text : List ℕ
@@ -56,12 +57,15 @@ abbrev pub write_in : Option Context → ℕ → WriteRequest → DeskState → 
 write_in (Some c) base q desk t = placed q c desk t
 write_in None base q desk t = taken_by (next_call t).called base q desk (next_call t).ahead
 
-abbrev pub write_if : Bool → Option Context → ℕ → WriteRequest → DeskState → Ahead → Step
-write_if true c base q desk t = refuses c desk q.ticket fbig t
-write_if false c base q desk t = write_in c base q desk t
+-- a reply at once, and the end of a connection
 
-abbrev pub write_of : Option Context → ℕ → WriteRequest → DeskState → Ahead → Step
-write_of c base q desk t = write_if (nat_le (2 ^ 63) (q.offset + length q.bytes)) c base q desk t
+abbrev pub say_of : ℕ → ℕ → List ℕ → State → Ahead → Step
+say_of conn xid reply s t =
+    let now = reply_now (issued conn xid s.desk) (s.desk.last + 1) reply in
+    record { state = record s { desk = now.desk }; text = now.text; put = []; stopped = false; ahead = t }
+
+abbrev pub close_of : ℕ → State → Ahead → Step
+close_of conn s t = record { state = record s { desk = cancelled conn s.desk }; text = closed_line conn; put = []; stopped = false; ahead = t }
 
 -- a turn
 
@@ -94,11 +98,13 @@ abbrev pub made_by : Called → State → Ahead → Step
 made_by Good s t = record { state = s; text = []; put = []; stopped = false; ahead = t }
 made_by (Bad kept) s t = record { state = s; text = []; put = []; stopped = true; ahead = t }
 
--- one event, over what the body holds
-unfoldable pub step_of : List ℕ → State → Event → Ahead → Step
-step_of content s MakeFile t = made_by (next_call t).called s (next_call t).ahead
-step_of content s (Write conn call) t = write_of s.opened (length content) (request (s.desk.last + 1) call) (issued conn call.xid s.desk) t
-step_of content s Turn t = turn_of s.opened content s.desk t
+-- one act, over what the body holds
+unfoldable pub step_of : List ℕ → State → Act → Ahead → Step
+step_of content s Make t = made_by (next_call t).called s (next_call t).ahead
+step_of content s (Says conn xid reply) t = say_of conn xid reply s t
+step_of content s (Writes conn call) t = write_in s.opened (length content) (request (s.desk.last + 1) call) (issued conn call.xid s.desk) t
+step_of content s (Ends conn) t = close_of conn s t
+step_of content s Turns t = turn_of s.opened content s.desk t
 
 -- history
 
@@ -117,7 +123,7 @@ abbrev pub end_history : Option Context → List ℕ
 end_history None = []
 end_history (Some c) = history_text 4 (history_by c)
 
--- all that comes of the events: what is written, what is put into the body, whether a failed call ended the run, and the
+-- all that comes of the acts: what is written, what is put into the body, whether a failed call ended the run, and the
 -- outcomes that are left
 pub record Gone : Type 0 where
   pub text : List ℕ
@@ -138,7 +144,18 @@ abbrev pub gone_then : Bool → Step → Gone → Gone
 gone_then true s later = gone_stopped s
 gone_then false s later = onto s.text s.put later
 
-abbrev pub gone_of : List ℕ → State → List Event → Ahead → Gone
+abbrev pub gone_of : List ℕ → State → List Act → Ahead → Gone
 gone_of content s [] t = gone_at_end s t
-gone_of content s (event ∷ events) t =
-    let n = step_of content s event t in gone_then n.stopped n (gone_of (content ++ n.put) n.state events n.ahead)
+gone_of content s (act ∷ acts) t =
+    let n = step_of content s act t in gone_then n.stopped n (gone_of (content ++ n.put) n.state acts n.ahead)
+
+-- What the program keeps between two lines: the connections beside it.
+pub record Serving : Type 0 where
+  pub front : Front
+  pub state : State
+
+abbrev pub idle : Serving
+idle = record { front = no_links; state = initial }
+
+abbrev pub gone_all : List ℕ → Serving → List Event → Ahead → Gone
+gone_all content s events t = gone_of content s.state (acts_of s.front events) t

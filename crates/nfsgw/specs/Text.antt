@@ -1,5 +1,5 @@
 -- What a run writes: replies and histories as text.
-use Rattle.std.specs.Prelude.{ℕ, ◌+◌, ◌^◌, List, ◌++◌, codes, Option, Some, None}
+use Rattle.std.specs.Prelude.{ℕ, List, ◌++◌, codes, length, Option, Some, None}
 use Rattle.std.specs.List.{flat_map}
 use Rattle.std.specs.Fmt.{decimal}
 use Rattle.hex.specs.Hex.{encode_lower}
@@ -7,15 +7,12 @@ use Rattle.gw_model.specs.declared.Stable.{Stable}
 use Rattle.gw_model.specs.declared.Stable.TheVariants.{Unstable, DataSync, FileSync}
 use Rattle.gw_model.specs.Ending.{Why, Closed, Removed, Restarted, Ended, Fate, Lost, Stored, Open, WriteLine, History}
 use Rattle.xdr.specs.Items.{word, long}
+use Rattle.rpc_msg.specs.Replies.{accepted}
+use Rattle.rpc_record.specs.Records.{mark_text}
 
 -- the verifier of a WRITE's reply (RFC 1813 section 3.3.7): the generation, which is the first
 abbrev pub generation : ℕ
 generation = 1
-
--- what comes before the results of so many bytes: the mark of one fragment, the xid, REPLY, MSG_ACCEPTED, no verifier and
--- SUCCESS (RFC 5531 sections 9 and 11)
-unfoldable pub accepted_head : ℕ → ℕ → List ℕ
-accepted_head xid count = word (2 ^ 31 + (24 + count)) ++ word xid ++ word 1 ++ word 0 ++ word 0 ++ word 0 ++ word 0
 
 abbrev pub level_word : Stable → ℕ
 level_word Unstable = 0
@@ -24,18 +21,22 @@ level_word FileSync = 2
 
 -- WRITE3resok: no attributes, the count, how far it is committed, and the verifier (RFC 1813 section 3.3.7)
 unfoldable pub wrote_reply : ℕ → ℕ → Stable → List ℕ
-wrote_reply xid count level = accepted_head xid 28 ++ word 0 ++ word 0 ++ word 0 ++ word count ++ word (level_word level) ++ long generation
+wrote_reply xid count level = accepted xid 0 ++ word 0 ++ word 0 ++ word 0 ++ word count ++ word (level_word level) ++ long generation
 
 -- WRITE3resfail: the status, and no attributes
 unfoldable pub refused_reply : ℕ → ℕ → List ℕ
-refused_reply xid status = accepted_head xid 12 ++ word status ++ word 0 ++ word 0
+refused_reply xid status = accepted xid 0 ++ word status ++ word 0 ++ word 0
 
 -- a line of the output with bytes in hex digits
 unfoldable pub hex_line : ℕ → List ℕ → List ℕ
 hex_line conn digits = codes "reply " ++ decimal conn ++ codes " " ++ digits ++ codes "\n"
 
+-- a reply is one fragment (RFC 5531 section 11)
 abbrev pub reply_line : ℕ → List ℕ → List ℕ
-reply_line conn bytes = hex_line conn (encode_lower bytes)
+reply_line conn reply = hex_line conn (encode_lower (mark_text (length reply) ++ reply))
+
+unfoldable pub closed_line : ℕ → List ℕ
+closed_line conn = codes "closed " ++ decimal conn ++ codes "\n"
 
 abbrev pub fate_text : Fate → List ℕ
 fate_text Lost = codes "lost"

@@ -1,17 +1,16 @@
--- The sequential definition, cut to UNSTABLE writes of one file: what each event leaves of the world, and what it writes.
-use Rattle.std.specs.Prelude.{ℕ, ◌+◌, ◌^◌, Bool, true, false, List, [], ◌∷◌, ◌++◌, length, Option, Some, None, nat_le}
+-- The sequential definition, cut to UNSTABLE writes of one file: what each act leaves of the world, and what it writes.
+use Rattle.std.specs.Prelude.{ℕ, ◌+◌, ◌^◌, Bool, true, false, List, [], ◌∷◌, ◌++◌, Option, Some, None}
 use Rattle.gw_model.specs.declared.limits.Limits.{Limits}
 use Rattle.gw_model.specs.declared.Stable.TheVariants.{Unstable}
 use Rattle.gw_model.specs.Ahead.{Ahead, Called, Good, Bad, next_call}
 use Rattle.gw_model.specs.File.{Body, Wrote, NotWritten, Silence, Answer, File, Step, opened, content}
-use Rattle.gw_model.specs.Admission.{io, fbig, write, WriteRequest}
+use Rattle.gw_model.specs.Admission.{io, write, WriteRequest}
 use Rattle.gw_model.specs.Writer.{turn}
 use Rattle.gw_model.specs.Ending.{Ended, history_of}
-use Rattle.tickets.specs.Desk.{TicketId, DeskState, new_desk, owed, issued, dropped, answered}
-use Rattle.nfsgw.specs.Text.{wrote_reply, refused_reply, reply_line, history_text}
+use Rattle.tickets.specs.Desk.{TicketId, DeskState, new_desk, owed, issued, dropped, answered, cancelled}
+use Rattle.nfsgw.specs.Text.{wrote_reply, refused_reply, reply_line, closed_line, history_text}
 use Rattle.nfsgw.specs.declared.call.WriteCall.{WriteCall}
-use Rattle.nfsgw.specs.declared.grammar.Event.{Event}
-use Rattle.nfsgw.specs.declared.grammar.Event.TheVariants.{MakeFile, Write, Turn}
+use Rattle.nfsgw.specs.Acts.{Act, Make, Says, Writes, Ends, Turns}
 
 pub record World : Type 0 where
   -- what the file's body holds while the file has no context
@@ -33,7 +32,7 @@ body_in body (Some f) = content f
 abbrev pub body_of : World → List ℕ
 body_of w = body_in w.body w.opened
 
--- what an event leaves, the text that it writes, and the outcomes that are left
+-- what an act leaves, the text that it writes, and the outcomes that are left
 pub record Turned : Type 0 where
   pub world : World
   pub text : List ℕ
@@ -82,7 +81,7 @@ of_step w s = sends (record w { opened = Some s.file }) s.answers s.ahead
 
 -- there is no cap yet, and no line: more slots and room than a run can use
 abbrev pub unlimited : Limits
-unlimited = record { commits = 2 ^ 65; history = 2 ^ 65; line_slots = 2 ^ 65; memory_cap = 2 ^ 128; memory_mark = 2 ^ 128; pending_max = 2 ^ 65; ready_cap = 2 ^ 128; spill_size = 0; timeout_ms = 2 ^ 64 }
+unlimited = record { commits = 2 ^ 80; history = 2 ^ 80; line_slots = 2 ^ 80; memory_cap = 2 ^ 128; memory_mark = 2 ^ 128; pending_max = 2 ^ 80; ready_cap = 2 ^ 128; spill_size = 0; timeout_ms = 2 ^ 64 }
 
 -- the first write takes the body from the store, and a context is opened
 abbrev pub opened_for : Called → World → WriteRequest → Ahead → Turned
@@ -93,11 +92,6 @@ abbrev pub write_in : Option File → World → WriteRequest → Ahead → Turne
 write_in (Some f) w q t = of_step w (write unlimited f q t)
 write_in None w q t = let c = next_call t in opened_for c.called w q c.ahead
 
--- by whether the end would be 2 ^ 63 or more
-abbrev pub write_if : Bool → World → WriteRequest → Ahead → Turned
-write_if true w q t = answer w q.ticket fbig t
-write_if false w q t = write_in w.opened w q t
-
 abbrev pub request : ℕ → WriteCall → WriteRequest
 request ticket call = record { offset = call.offset; bytes = call.content; level = Unstable; ticket = ticket; moment = 0 }
 
@@ -105,8 +99,17 @@ request ticket call = record { offset = call.offset; bytes = call.content; level
 abbrev pub ask : ℕ → ℕ → World → World
 ask conn xid w = record w { desk = issued conn xid w.desk }
 
-abbrev pub do_write : World → WriteRequest → Ahead → Turned
-do_write w q t = write_if (nat_le (2 ^ 63) (q.offset + length q.bytes)) w q t
+-- a reply that is made at once
+
+abbrev pub text_to : Option TicketId → List ℕ → List ℕ
+text_to None reply = []
+text_to (Some t) reply = reply_line t.conn reply
+
+abbrev pub reply_now : DeskState → ℕ → List ℕ → Sent
+reply_now d ticket reply = record { desk = answered ticket d; text = text_to (owed ticket d) reply }
+
+abbrev pub say : World → ℕ → List ℕ → Ahead → Turned
+say w ticket reply t = let s = reply_now w.desk ticket reply in record { world = record w { desk = s.desk }; text = s.text; ahead = t }
 
 -- the `file` line creates the body
 abbrev pub made : Called → World → Ahead → Turned
@@ -117,14 +120,20 @@ abbrev pub turn_in : Option File → World → Ahead → Turned
 turn_in None w t = still w t
 turn_in (Some f) w t = of_step w (turn f t)
 
-unfoldable pub next : World → Event → Ahead → Turned
-next w MakeFile t = let c = next_call t in made c.called w c.ahead
-next w (Write conn call) t = do_write (ask conn call.xid w) (request (w.desk.last + 1) call) t
-next w Turn t = turn_in w.opened w t
+-- a connection ends: none of its requests is answered any more
+abbrev pub close : World → ℕ → Ahead → Turned
+close w conn t = record { world = record w { desk = cancelled conn w.desk }; text = closed_line conn; ahead = t }
+
+unfoldable pub next : World → Act → Ahead → Turned
+next w Make t = let c = next_call t in made c.called w c.ahead
+next w (Says conn xid reply) t = say (ask conn xid w) (w.desk.last + 1) reply t
+next w (Writes conn call) t = write_in w.opened (ask conn call.xid w) (request (w.desk.last + 1) call) t
+next w (Ends conn) t = close w conn t
+next w Turns t = turn_in w.opened w t
 
 -- a whole run
 
--- all that comes of the events: the text, what the body then holds, whether a failed call ended the run, and the
+-- all that comes of the acts: the text, what the body then holds, whether a failed call ended the run, and the
 -- outcomes that are left
 pub record Told : Type 0 where
   pub text : List ℕ
@@ -151,7 +160,7 @@ told_then true s later = told_stopped s
 told_then false s later = onto s.text later
 
 -- the fold of `next`, up to where a failed call ends it, and then the end histories
-abbrev pub told_of : World → List Event → Ahead → Told
+abbrev pub told_of : World → List Act → Ahead → Told
 told_of w [] t = told_at_end w t
-told_of w (event ∷ events) t =
-    let s = next w event t in told_then s.world.stopped s (told_of s.world events s.ahead)
+told_of w (act ∷ acts) t =
+    let s = next w act t in told_then s.world.stopped s (told_of s.world acts s.ahead)

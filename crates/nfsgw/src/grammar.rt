@@ -2,11 +2,9 @@
 ghost use Rattle.std.specs.Prelude.{◌≡◌, ◌↔◌, ◌==◌, ◌<◌, Bool, List, ℕ, Some, length, position, IfOk, IfSome};
 ghost use Rattle.std.specs.List.{list_all};
 ghost use Rattle.transcript.specs.Fields.{bytes_of};
-ghost use Rattle.nfsgw.specs.Call.{call_of};
-ghost use Rattle.nfsgw.specs.Grammar.{in_name, is_name as is_name_text, first_line, later_line as later_line_of, bytes_line, call_in, write_line, line_of as line_of_text, IsLine};
+ghost use Rattle.nfsgw.specs.Grammar.{in_name, is_name as is_name_text, file_line as file_line_of, bytes_line, piece_in, line_of as line_of_text, IsLine};
 ghost use Rattle.nfsgw.specs.declared.grammar.Line.{Line as LineTerm};
 
-use crate::call::{WriteCall, read_call};
 use bytes::Bytes;
 use std::alloc::{AllocError, Global};
 use transcript::{decode, parse_u32};
@@ -16,8 +14,8 @@ use transcript::{decode, parse_u32};
 pub enum Event {
     /// The file is made, empty, in the root.
     MakeFile,
-    /// A connection sends a WRITE.
-    Write { conn: u32, call: WriteCall },
+    /// A connection sends these bytes, at least one, behind those that it sent before.
+    Bytes { conn: u32, bytes: Bytes },
     /// The writer does the first write that is held.
     Turn,
 }
@@ -48,39 +46,29 @@ pub fn is_name(name: &[u8]) -> bool
     name != b".".as_slice() && name != b"..".as_slice()
 }
 
-// The line `file NAME`, which is the first.
-fn file_line(text: &[u8]) -> Option<Line>
-    ensures { result ≡ first_line text.now }
+// The line `file NAME`, which only the first can be.
+fn file_line(first: bool, text: &[u8]) -> Option<Line>
+    ensures { result ≡ file_line_of first text.now }
 {
-    if text.starts_with(b"file ") && is_name(&text[5..]) {
+    if first && text.starts_with(b"file ") && is_name(&text[5..]) {
         Some(Line::Go(Event::MakeFile))
     } else {
         None
     }
 }
 
-// The line of a call on a connection.
-fn call_line(alloc: Global, conn: u32, message: Vec<u8>) -> Result<Option<Line>, AllocError>
-    ensures { IfOk result (λ line. line ≡ write_line conn (call_of message.items)) }
-{
-    let message = Bytes::from_vec(message)?;
-    match read_call(alloc, message)? {
-        Some(call) => Ok(Some(Line::Go(Event::Write { conn, call }))),
-        None => Ok(None),
-    }
-}
-
 // The line with these two fields, CONN and HEX.
 fn fields_line(alloc: Global, conn: Option<u32>, hex: &[u8]) -> Result<Option<Line>, AllocError>
-    ensures { IfOk result (λ line. line ≡ call_in conn (bytes_of hex.now)) }
+    ensures { IfOk result (λ line. line ≡ piece_in conn (bytes_of hex.now)) }
 {
     let Some(conn) = conn else {
         return Ok(None);
     };
-    match decode(alloc, hex)? {
-        Some(message) => call_line(alloc, conn, message),
-        None => Ok(None),
-    }
+    let Some(bytes) = decode(alloc, hex)? else {
+        return Ok(None);
+    };
+    let bytes = Bytes::from_vec(bytes)?;
+    Ok(Some(Line::Go(Event::Bytes { conn, bytes })))
 }
 
 fn first_space(text: &[u8]) -> Option<usize>
@@ -100,9 +88,10 @@ fn bytes_rest(alloc: Global, rest: &[u8]) -> Result<Option<Line>, AllocError>
     }
 }
 
-// A line that isn't the first.
-fn later_line(alloc: Global, text: &[u8]) -> Result<Option<Line>, AllocError>
-    ensures { IfOk result (λ line. line ≡ later_line_of text.now) }
+/// The line that a text is, if it is one, as the first or as a later one. It fails only for want of memory.
+#[tactic(auto, unfolding(crate::specs::Grammar::line_of))]
+pub fn line_of(alloc: Global, first: bool, text: &[u8]) -> Result<Option<Line>, AllocError>
+    ensures { IfOk result (λ line. line ≡ line_of_text first text.now) }
 {
     if text == b"end".as_slice() {
         Ok(Some(Line::End))
@@ -111,19 +100,7 @@ fn later_line(alloc: Global, text: &[u8]) -> Result<Option<Line>, AllocError>
     } else if text.starts_with(b"bytes ") {
         bytes_rest(alloc, &text[6..])
     } else {
-        Ok(None)
-    }
-}
-
-/// The line that a text is, if it is one, as the first or as a later one. It fails only for want of memory.
-#[tactic(auto, unfolding(crate::specs::Grammar::line_of))]
-pub fn line_of(alloc: Global, first: bool, text: &[u8]) -> Result<Option<Line>, AllocError>
-    ensures { IfOk result (λ line. line ≡ line_of_text first text.now) }
-{
-    if first {
-        Ok(file_line(text))
-    } else {
-        later_line(alloc, text)
+        Ok(file_line(first, text))
     }
 }
 
@@ -137,8 +114,51 @@ mod tests {
     use super::*;
     use std::test::Fail;
 
+    // Whether the text is a line in which this connection sends these bytes, as the first and as a later one.
+    fn sends(alloc: Global, text: &[u8], conn: u32, bytes: &[u8]) -> Result<bool, AllocError> {
+        for first in [true, false] {
+            match line_of(alloc, first, text)? {
+                Some(Line::Go(Event::Bytes {
+                    conn: sender,
+                    bytes: sent,
+                })) if sender == conn && sent.as_slice() == bytes => {}
+                _ => return Ok(false),
+            }
+        }
+        Ok(true)
+    }
+
+    // Whether the text is no line, neither as the first nor as a later one.
+    fn is_refused(alloc: Global, text: &[u8]) -> Result<bool, AllocError> {
+        Ok(line_of(alloc, true, text)?.is_none() && line_of(alloc, false, text)?.is_none())
+    }
+
     #[test]
-    fn reads_the_lines(rt: HostRuntime) -> Result<(), Fail> {
+    fn reads_the_pieces(rt: HostRuntime) -> Result<(), Fail> {
+        let alloc = rt.alloc();
+        assert!(rt; sends(alloc, b"bytes 0 00", 0, &[0])?);
+        assert!(rt; sends(alloc, b"bytes 4294967295 aB", 4_294_967_295, &[0xab])?);
+        assert!(rt; sends(alloc, b"bytes 10 0a20FF", 10, &[10, 32, 255])?);
+        Ok(())
+    }
+
+    #[test]
+    fn refuses_other_pieces(rt: HostRuntime) -> Result<(), Fail> {
+        let alloc = rt.alloc();
+        assert!(rt; is_refused(alloc, b"bytes 4294967296 00")?);
+        assert!(rt; is_refused(alloc, b"bytes 1")?);
+        assert!(rt; is_refused(alloc, b"bytes 1 ")?);
+        assert!(rt; is_refused(alloc, b"bytes 1 0")?);
+        assert!(rt; is_refused(alloc, b"bytes 01 00")?);
+        assert!(rt; is_refused(alloc, b"bytes 1 0g")?);
+        assert!(rt; is_refused(alloc, b"bytes 1 00 ")?);
+        assert!(rt; is_refused(alloc, b"bytes 1  00")?);
+        assert!(rt; is_refused(alloc, b"bytes  00")?);
+        Ok(())
+    }
+
+    #[test]
+    fn reads_the_other_lines(rt: HostRuntime) -> Result<(), Fail> {
         let alloc = rt.alloc();
         assert!(rt;
             matches!(
@@ -146,22 +166,14 @@ mod tests {
                 Some(Line::Go(Event::MakeFile))
             )
         );
-        assert!(rt;
-            matches!(
-                line_of(alloc, false, b"turn 4")?,
-                Some(Line::Go(Event::Turn))
-            )
-        );
-        assert!(rt; matches!(line_of(alloc, false, b"end")?, Some(Line::End)));
-        // WRITE of `abcde` at offset 0, with the xid 1, in upper-case digits.
-        let write =
-            b"bytes 1 80000068000000010000000000000002000186A3000000030000000700000000000000000000000000000000000000200000000000000004000000000000000121E0F2975A84E78CEC58787AF28BDE1400000000000000000000000500000000000000056162636465000000";
-        match line_of(alloc, false, write)? {
-            Some(Line::Go(Event::Write { conn, call })) => {
-                assert_eq!(rt; conn, 1);
-                assert_eq!(rt; call.content.as_slice(), b"abcde".as_slice());
-            }
-            _ => assert!(rt; false),
+        for first in [true, false] {
+            assert!(rt;
+                matches!(
+                    line_of(alloc, first, b"turn 4")?,
+                    Some(Line::Go(Event::Turn))
+                )
+            );
+            assert!(rt; matches!(line_of(alloc, first, b"end")?, Some(Line::End)));
         }
         Ok(())
     }
@@ -169,18 +181,27 @@ mod tests {
     #[test]
     fn refuses_other_lines(rt: HostRuntime) -> Result<(), Fail> {
         let alloc = rt.alloc();
-        assert!(rt; line_of(alloc, true, b"file a/b")?.is_none());
-        assert!(rt; line_of(alloc, true, b"file .")?.is_none());
-        assert!(rt; line_of(alloc, false, b"file data")?.is_none());
-        assert!(rt; line_of(alloc, false, b"turn 04")?.is_none());
-        assert!(rt; line_of(alloc, false, b"turn 5")?.is_none());
-        assert!(rt; line_of(alloc, false, b"end ")?.is_none());
-        let padded =
-            b"bytes 01 80000068000000010000000000000002000186a3000000030000000700000000000000000000000000000000000000200000000000000004000000000000000121e0f2975a84e78cec58787af28bde1400000000000000000000000500000000000000056162636465000000";
-        assert!(rt; line_of(alloc, false, padded)?.is_none());
-        let mut long_name = Vec::from_slice(alloc, b"file ")?;
-        long_name.extend_from_slice(&[b'a'; 256])?;
-        assert!(rt; line_of(alloc, true, &long_name)?.is_none());
+        assert!(rt; line_of(alloc, false, b"file a")?.is_none());
+        assert!(rt; is_refused(alloc, b"file .")?);
+        assert!(rt; is_refused(alloc, b"file ..")?);
+        assert!(rt; is_refused(alloc, b"file ")?);
+        assert!(rt; is_refused(alloc, b"file a/b")?);
+        assert!(rt; is_refused(alloc, b"file a b")?);
+        assert!(rt; is_refused(alloc, b"turn 04")?);
+        assert!(rt; is_refused(alloc, b"turn 5")?);
+        assert!(rt; is_refused(alloc, b"end ")?);
+        assert!(rt; is_refused(alloc, b"")?);
+        Ok(())
+    }
+
+    #[test]
+    fn counts_the_bytes_of_a_name(rt: HostRuntime) -> Result<(), Fail> {
+        let alloc = rt.alloc();
+        let mut text = Vec::from_slice(alloc, b"file ")?;
+        text.extend_from_slice(&[b'a'; 255])?;
+        assert!(rt; line_of(alloc, true, &text)?.is_some());
+        text.push(b'a')?;
+        assert!(rt; is_refused(alloc, &text)?);
         Ok(())
     }
 }

@@ -1,10 +1,13 @@
-// Replies to WRITE, and their lines of the output.
-ghost use Rattle.std.specs.Prelude.{◌≡◌, ◌≤◌, ◌++◌, IfOk, OnOk, string_bytes};
+// Replies, and the lines of the output.
+ghost use Rattle.std.specs.Prelude.{◌≡◌, ◌<◌, ◌++◌, ◌^◌, IfOk, OnOk, length, string_bytes};
+ghost use Rattle.rpc_record.specs.Records.{mark_text};
 ghost use Rattle.gw_model.specs.declared.Stable.TheVariants.{Unstable};
-ghost use Rattle.nfsgw.specs.Text.{accepted_head, wrote_reply, refused_reply, hex_line, reply_line};
+ghost use Rattle.nfsgw.specs.Text.{wrote_reply, refused_reply, hex_line, reply_line, closed_line};
 ghost use Rattle.nfsgw.specs.World.{reply_bytes};
 ghost use Rattle.nfsgw.specs.Answers.{body_of, IsWrite};
 
+use rpc_msg::accepted_head;
+use rpc_record::mark;
 use std::alloc::{AllocError, Global};
 use std::fmt::Write;
 use tickets::Body;
@@ -13,28 +16,15 @@ use xdr::{NoMemory, Writer};
 /// The verifier of the first generation.
 const VERIFIER: u64 = 1;
 
-/// What comes before the results of `count` bytes: the record mark, and the head of an accepted reply.
-#[tactic(auto, unfolding(crate::specs::Text::accepted_head))]
-fn put_head(reply: &mut Writer, xid: u32, count: u32) -> Result<(), NoMemory>
-    requires { count ≤ 28 }
-    ensures { OnOk result (reply.new ≡ reply.old ++ accepted_head xid count) }
-{
-    reply.put_u32(0x8000_0000 + (24 + count))?;
-    reply.put_u32(xid)?;
-    reply.put_u32(1)?;
-    reply.put_u32(0)?;
-    reply.put_u32(0)?;
-    reply.put_u32(0)?;
-    reply.put_u32(0)
-}
+const SUCCESS: u32 = 0;
 
 /// The reply to an UNSTABLE write of `count` bytes that was done.
 #[tactic(auto, unfolding(crate::specs::Text::wrote_reply))]
-fn wrote_bytes(alloc: Global, xid: u32, count: u32) -> Result<Vec<u8>, NoMemory>
+pub fn wrote_bytes(alloc: Global, xid: u32, count: u32) -> Result<Vec<u8>, NoMemory>
     ensures { IfOk result (λ reply. reply.items ≡ wrote_reply xid count Unstable) }
 {
     let mut reply = Writer::new(alloc);
-    put_head(&mut reply, xid, 28)?;
+    reply.put_fixed(&accepted_head(xid, SUCCESS))?;
     reply.put_u32(0)?;
     reply.put_u32(0)?;
     reply.put_u32(0)?;
@@ -46,11 +36,11 @@ fn wrote_bytes(alloc: Global, xid: u32, count: u32) -> Result<Vec<u8>, NoMemory>
 
 /// The reply to a write that is refused.
 #[tactic(auto, unfolding(crate::specs::Text::refused_reply))]
-fn refused_bytes(alloc: Global, xid: u32, status: u32) -> Result<Vec<u8>, NoMemory>
+pub fn refused_bytes(alloc: Global, xid: u32, status: u32) -> Result<Vec<u8>, NoMemory>
     ensures { IfOk result (λ reply. reply.items ≡ refused_reply xid status) }
 {
     let mut reply = Writer::new(alloc);
-    put_head(&mut reply, xid, 12)?;
+    reply.put_fixed(&accepted_head(xid, SUCCESS))?;
     reply.put_u32(status)?;
     reply.put_u32(0)?;
     reply.put_u32(0)?;
@@ -64,11 +54,20 @@ fn push_line(out: &mut String, conn: u32, digits: &str) -> Result<(), AllocError
     write!(out, "reply {conn} {digits}\n")
 }
 
+// A reply as one fragment (RFC 5531 section 11).
+fn marked(alloc: Global, reply: &[u8]) -> Result<Vec<u8>, AllocError>
+    ensures { IfOk result (λ bytes. bytes.items ≡ mark_text (length reply.now) ++ reply.now) }
+{
+    let mut bytes = Vec::from_slice(alloc, &mark(reply.len() as u32))?;
+    bytes.extend_from_slice(reply)?;
+    Ok(bytes)
+}
+
 /// The output's line of a reply.
-fn line(alloc: Global, conn: u32, reply: &[u8]) -> Result<String, AllocError>
+pub fn line(alloc: Global, conn: u32, reply: &[u8]) -> Result<String, AllocError>
     ensures { IfOk result (λ text. string_bytes text ≡ reply_line conn reply.now) }
 {
-    let digits = hex::encode(alloc, reply)?;
+    let digits = hex::encode(alloc, marked(alloc, reply)?)?;
     let mut out = String::new(alloc);
     push_line(&mut out, conn, digits.as_str())?;
     Ok(out)
@@ -89,4 +88,14 @@ pub fn reply_text(alloc: Global, conn: u32, xid: u32, body: &Body) -> Result<Str
     };
     let reply = reply.map_err(|_| AllocError)?;
     line(alloc, conn, &reply)
+}
+
+/// The output's line of a connection that ended. Takes memory.
+#[tactic(auto, unfolding(crate::specs::Text::closed_line))]
+pub fn closed_text(alloc: Global, conn: u32) -> Result<String, AllocError>
+    ensures { IfOk result (λ text. string_bytes text ≡ closed_line conn) }
+{
+    let mut out = String::new(alloc);
+    write!(out, "closed {conn}\n")?;
+    Ok(out)
 }

@@ -1,18 +1,19 @@
 // The top call: a command over a source, a sink and a store.
-ghost use Rattle.std.specs.Prelude.{◌≡◌, ◌≢◌, ◌<◌, ◌≤◌, ◌+◌, ◌==◌, ◌↔◌, None, is_some, map, string_bytes, false, IsTrue};
+ghost use Rattle.std.specs.Prelude.{◌≡◌, ◌≢◌, ◌<◌, ◌≤◌, ◌+◌, ◌==◌, ◌↔◌, None, is_some, map, string_bytes, true, false, IsTrue};
 ghost use Rattle.std.specs.Option.{option_map};
 ghost use Rattle.gw_outside.specs.Causes.{Rose};
 ghost use Rattle.append_store.specs.State.{IsAway, bytes_of};
 ghost use Rattle.transcript.specs.Script.{max_lines};
 ghost use Rattle.gw_model.specs.declared.object.ObjectId.{ObjectId};
 ghost use Rattle.nfsgw.specs.Headline.{IsReplay, IsComplete, Runs};
-ghost use Rattle.nfsgw.specs.Steps.{initial, end_history};
-ghost use Rattle.nfsgw.specs.Outside.{body_id, body_at, faults_at, Safe, Home, IsReady, IsSmall, GivesBack};
-ghost use Rattle.nfsgw.specs.Progress.{Stands, Turns, Ends, IsEventTurn, IsWritten, status_by};
+ghost use Rattle.nfsgw.specs.Steps.{idle, end_history};
+ghost use Rattle.nfsgw.specs.Outside.{body_id, body_at, faults_at, Safe, Stands, IsReady, GivesBack};
+ghost use Rattle.nfsgw.specs.Progress.{Turns, Ends, IsEventTurn, IsWritten, status_by};
 
 use crate::grammar::{Event, Line, line_of};
 use crate::status::Status;
-use crate::world::{BODY, Stepped, World};
+use crate::gateway::Gateway;
+use crate::world::{BODY, Stepped};
 use append_store::Cluster;
 use gw_outside::{Sink, Source};
 use std::alloc::Global;
@@ -54,26 +55,26 @@ pub enum Written {
 fn one_event<K: Sink, C: Cluster>(
     alloc: Global,
     event: Event,
-    world: &mut World,
+    gateway: &mut Gateway,
     sink: &mut K,
     cluster: &mut C,
     body: &mut Option<C::File>,
 ) -> Turn
-    requires both { is_some body.old ≡ is_some world.old.opened }
-    requires ready { IsReady C.File.tells event (C.at cluster.old body_id) (option_map (λ b. C.File.mark b) body.old) }
-    requires small { IsSmall event }
-    ensures moves { IsEventTurn C.File.tells result event world.old world.new (K.held sink.old) (K.held sink.new)
+    requires both { is_some body.old ≡ is_some gateway.old.state.opened }
+    requires stands { Stands C.File.tells gateway.old.front.in_tree (C.at cluster.old body_id) (option_map (λ b. C.File.mark b) body.old) }
+    requires ready { IsReady event gateway.old.front.in_tree }
+    ensures moves { IsEventTurn C.File.tells result event gateway.old gateway.new (K.held sink.old) (K.held sink.new)
         (body_at (C.at cluster.old body_id) (option_map (λ b. C.File.content b) body.old)) (body_at (C.at cluster.new body_id) (option_map (λ b. C.File.content b) body.new))
         (faults_at (C.count cluster.old) (option_map (λ b. C.File.count b) body.old)) (faults_at (C.count cluster.new) (option_map (λ b. C.File.count b) body.new)) }
-    ensures both_after { result ≡ Turn.More → is_some body.new ≡ is_some world.new.opened }
+    ensures both_after { result ≡ Turn.More → is_some body.new ≡ is_some gateway.new.state.opened }
     ensures others { C.File.tells → (q : ObjectId) → q ≢ body_id → C.at cluster.new q ≡ C.at cluster.old q }
     ensures safe { Safe C.File.tells (C.at cluster.new body_id) (option_map (λ b. C.File.mark b) body.new) }
-    ensures home { result ≡ Turn.More → Home C.File.tells (C.at cluster.new body_id) (option_map (λ b. C.File.mark b) body.new) }
+    ensures stands_after { result ≡ Turn.More → Stands C.File.tells gateway.new.front.in_tree (C.at cluster.new body_id) (option_map (λ b. C.File.mark b) body.new) }
     ensures later { K.count sink.old ≤ K.count sink.new }
     ensures write_cause { result ≡ Turn.WriteFault → Rose (K.count sink.old) (K.count sink.new) }
     ensures store_cause { result ≡ Turn.StoreFault → Rose (faults_at (C.count cluster.old) (option_map (λ b. C.File.count b) body.old)) (faults_at (C.count cluster.new) (option_map (λ b. C.File.count b) body.new)) }
 {
-    match world.step(alloc, event, cluster, body) {
+    match gateway.step(alloc, event, cluster, body) {
         Stepped::Text(text) => match write_all(sink, text.as_bytes()) {
             Ok(()) => Turn::More,
             Err(_) => Turn::WriteFault,
@@ -88,22 +89,23 @@ fn one_line<S: Source, K: Sink, C: Cluster>(
     alloc: Global,
     before: u64,
     lines: &mut Lines,
-    world: &mut World,
+    gateway: &mut Gateway,
     source: &mut S,
     sink: &mut K,
     cluster: &mut C,
     body: &mut Option<C::File>,
 ) -> Turn
     requires few { before < max_lines }
-    requires both { is_some body.old ≡ is_some world.old.opened }
-    requires stands { Stands C.File.tells (before == 0) (C.at cluster.old body_id) (option_map (λ b. C.File.mark b) body.old) }
-    ensures moves { Turns C.File.tells result (record { state = world.old; first = before == 0; before = before; pending = lines.old.pending })
-        (record { state = world.new; first = false; before = before + 1; pending = lines.new.pending })
+    requires both { is_some body.old ≡ is_some gateway.old.state.opened }
+    requires stands { Stands C.File.tells gateway.old.front.in_tree (C.at cluster.old body_id) (option_map (λ b. C.File.mark b) body.old) }
+    requires first { (before == 0) ≡ true → gateway.old.front.in_tree ≡ false }
+    ensures moves { Turns C.File.tells result (record { state = gateway.old; first = before == 0; before = before; pending = lines.old.pending })
+        (record { state = gateway.new; first = false; before = before + 1; pending = lines.new.pending })
         (record { left = S.left source.old; held = K.held sink.old; body = body_at (C.at cluster.old body_id) (option_map (λ b. C.File.content b) body.old); faults = faults_at (C.count cluster.old) (option_map (λ b. C.File.count b) body.old) })
         (record { left = S.left source.new; held = K.held sink.new; body = body_at (C.at cluster.new body_id) (option_map (λ b. C.File.content b) body.new); faults = faults_at (C.count cluster.new) (option_map (λ b. C.File.count b) body.new) }) }
-    ensures both_after { result ≡ Turn.More → is_some body.new ≡ is_some world.new.opened }
+    ensures both_after { result ≡ Turn.More → is_some body.new ≡ is_some gateway.new.state.opened }
     ensures others { C.File.tells → (q : ObjectId) → q ≢ body_id → C.at cluster.new q ≡ C.at cluster.old q }
-    ensures home { result ≡ Turn.More → Home C.File.tells (C.at cluster.new body_id) (option_map (λ b. C.File.mark b) body.new) }
+    ensures stands_after { result ≡ Turn.More → Stands C.File.tells gateway.new.front.in_tree (C.at cluster.new body_id) (option_map (λ b. C.File.mark b) body.new) }
     ensures safe { Safe C.File.tells (C.at cluster.new body_id) (option_map (λ b. C.File.mark b) body.new) }
     ensures source_later { S.count source.old ≤ S.count source.new }
     ensures sink_later { K.count sink.old ≤ K.count sink.new }
@@ -113,7 +115,7 @@ fn one_line<S: Source, K: Sink, C: Cluster>(
 {
     match lines.next(source) {
         Next::Line => match line_of(alloc, before == 0, lines.line()) {
-            Ok(Some(Line::Go(event))) => one_event(alloc, event, world, sink, cluster, body),
+            Ok(Some(Line::Go(event))) => one_event(alloc, event, gateway, sink, cluster, body),
             Ok(Some(Line::End)) => Turn::Ended,
             Ok(None) => Turn::Bad,
             Err(_) => Turn::NoMemory,
@@ -128,16 +130,16 @@ fn one_line<S: Source, K: Sink, C: Cluster>(
 /// Reads and does all lines.
 fn all_lines<S: Source, K: Sink, C: Cluster>(
     alloc: Global,
-    world: &mut World,
+    gateway: &mut Gateway,
     source: &mut S,
     sink: &mut K,
     cluster: &mut C,
     body: &mut Option<C::File>,
 ) -> Ending
-    requires fresh { world.old ≡ initial }
+    requires fresh { gateway.old ≡ idle }
     requires no_body { body.old ≡ None }
     requires home { Safe C.File.tells (C.at cluster.old body_id) None }
-    ensures moves { Ends C.File.tells result.turn result.lines world.new
+    ensures moves { Ends C.File.tells result.turn result.lines gateway.new
         (record { left = S.left source.old; held = K.held sink.old; body = bytes_of (C.at cluster.old body_id); faults = C.count cluster.old })
         (record { left = S.left source.new; held = K.held sink.new; body = body_at (C.at cluster.new body_id) (option_map (λ b. C.File.content b) body.new); faults = faults_at (C.count cluster.new) (option_map (λ b. C.File.count b) body.new) }) }
     ensures few { result.lines ≤ max_lines }
@@ -152,7 +154,7 @@ fn all_lines<S: Source, K: Sink, C: Cluster>(
     let mut lines = Lines::new(alloc);
     for before in 0..MAX_LINES {
         match one_line(
-            alloc, before, &mut lines, world, source, sink, cluster, body,
+            alloc, before, &mut lines, gateway, source, sink, cluster, body,
         ) {
             Turn::More => {}
             turn => return Ending {
@@ -181,12 +183,12 @@ fn give_back<C: Cluster>(cluster: &mut C, body: Option<C::File>)
 }
 
 /// Writes the history of the open file.
-fn write_history<K: Sink>(alloc: Global, world: &World, sink: &mut K) -> Written
-    ensures text { IsWritten result (end_history world.now.opened) (K.held sink.old) (K.held sink.new) }
+fn write_history<K: Sink>(alloc: Global, gateway: &Gateway, sink: &mut K) -> Written
+    ensures text { IsWritten result (end_history gateway.now.state.opened) (K.held sink.old) (K.held sink.new) }
     ensures later { K.count sink.old ≤ K.count sink.new }
     ensures cause { result ≡ Written.WriteFault → Rose (K.count sink.old) (K.count sink.new) }
 {
-    let Ok(text) = world.history(alloc) else {
+    let Ok(text) = gateway.history(alloc) else {
         return Written::NoMemory;
     };
     match write_all(sink, text.as_bytes()) {
@@ -228,9 +230,9 @@ fn replay<S: Source, K: Sink, C: Cluster>(
     ensures others { C.File.tells → (q : ObjectId) → q ≢ body_id → C.at cluster.new q ≡ C.at cluster.old q }
     ensures not_usage { result ≢ Status.Usage }
 {
-    let mut world = World::new(alloc);
+    let mut gateway = Gateway::new(alloc);
     let mut body = None;
-    let ending = all_lines(alloc, &mut world, source, sink, cluster, &mut body);
+    let ending = all_lines(alloc, &mut gateway, source, sink, cluster, &mut body);
     give_back(cluster, body);
     match ending.turn {
         Turn::StoreFault | Turn::WriteFault | Turn::NoMemory => {
@@ -238,7 +240,7 @@ fn replay<S: Source, K: Sink, C: Cluster>(
         }
         _ => {}
     }
-    match write_history(alloc, &world, sink) {
+    match write_history(alloc, &gateway, sink) {
         Written::Whole => status_of(ending.turn, ending.lines),
         Written::WriteFault => Status::WriteFault,
         Written::NoMemory => Status::NoMemory,

@@ -1,4 +1,4 @@
-// What a run keeps of the world, and what each event makes of it.
+// The file's context and the requests that wait, and what each act makes of them.
 ghost use Rattle.std.specs.Prelude.{◌≡◌, ◌≢◌, ◌≤◌, ◌<◌, ◌+◌, ◌∷◌, ◌^◌, ℕ, [], IfOk, OnOk, OnErr, is_some, length, string_bytes, true, false, IsTrue};
 ghost use Rattle.std.specs.Option.{option_map};
 ghost use Rattle.gw_outside.specs.Causes.{Rose};
@@ -7,19 +7,18 @@ ghost use Rattle.append_store.specs.State.{ObjectState, bytes_of};
 ghost use Rattle.nfsgw.specs.World.{send};
 ghost use Rattle.nfsgw.specs.Steps.{State, initial, end_history};
 ghost use Rattle.nfsgw.specs.Answers.{answer_of, IsWrite, Untouched};
-ghost use Rattle.nfsgw.specs.Outside.{body_id, body_at, faults_at, Safe, Home, IsReady, IsSmall, IsText, IsStep, IsCut, IsStepped, IsOpened, TakesIn};
-ghost use Rattle.nfsgw.specs.declared.grammar.Event.TheVariants.{MakeFile as MakeFileEvent, Write as WriteEvent, Turn as TurnEvent};
+ghost use Rattle.nfsgw.specs.Acts.{Make, Says, Writes, Ends, Turns};
+ghost use Rattle.nfsgw.specs.Outside.{body_id, body_at, faults_at, Safe, Home, IsText, IsStep, IsCut, IsQuiet, IsActed, IsOpened, TakesIn};
 
-use crate::answer::{FBIG, IO, refused};
+use crate::answer::{IO, refused};
 use crate::call::WriteCall;
-use crate::grammar::Event;
 use crate::open_file::{OpenFile, Verdict};
-use crate::reply::reply_text;
+use crate::reply::{closed_text, line, reply_text};
 use append_store::{AppendFile, Cluster, CreateFault};
-use gw_model::{ObjectId, end_of};
+use gw_model::ObjectId;
 use std::alloc::{AllocError, Global};
 use std::marker::Model;
-use tickets::{Answer, ReplyDesk, Sent, Ticket};
+use tickets::{Answer, Body, ReplyDesk, Sent, Ticket};
 
 /// The body of the one file.
 pub const BODY: ObjectId = ObjectId::Body {
@@ -53,7 +52,7 @@ impl Model for World {
 }
 
 /// What came of an event whose text was made, or not for want of memory.
-fn told(text: Result<String, AllocError>) -> Stepped
+pub fn told(text: Result<String, AllocError>) -> Stepped
     ensures ok { IfOk text (λ t. result ≡ Stepped.Text t) }
     ensures err { OnErr text (result ≡ Stepped.NoMemory) }
 {
@@ -64,9 +63,9 @@ fn told(text: Result<String, AllocError>) -> Stepped
 }
 
 /// Creates the body, which is left as it is where it is there already.
-fn make_file<C: Cluster>(alloc: Global, cluster: &mut C) -> Stepped
+pub fn make_file<C: Cluster>(alloc: Global, cluster: &mut C) -> Stepped
     requires safe { Safe C.File.tells (C.at cluster.old body_id) None }
-    ensures step { (s : State) → IsStepped C.File.tells result MakeFileEvent s s (bytes_of (C.at cluster.old body_id)) (bytes_of (C.at cluster.new body_id)) (C.count cluster.old) (C.count cluster.new) }
+    ensures step { (s : State) → IsActed C.File.tells result Make s s (bytes_of (C.at cluster.old body_id)) (bytes_of (C.at cluster.new body_id)) (C.count cluster.old) (C.count cluster.new) }
     ensures safe_after { Safe C.File.tells (C.at cluster.new body_id) None }
     ensures home { IsText result → Home C.File.tells (C.at cluster.new body_id) None }
     ensures others { C.File.tells → (q : ObjectId) → q ≢ body_id → C.at cluster.new q ≡ C.at cluster.old q }
@@ -160,8 +159,43 @@ impl World {
         }
     }
 
+    /// A request is answered at once.
+    pub fn say(
+        &mut self,
+        alloc: Global,
+        conn: u32,
+        xid: u32,
+        reply: &[u8],
+    ) -> Result<String, AllocError>
+        ensures said { IfOk result (λ text. IsQuiet (Says conn xid reply.now) self.old self.new (string_bytes text)) }
+        ensures open { is_some self.new.opened ≡ is_some self.old.opened }
+    {
+        let body = Body::Text(Vec::from_slice(alloc, reply)?);
+        let Ok(ticket) = self.desk.issue(conn, xid) else {
+            return Err(AllocError);
+        };
+        match self.desk.send(Answer { ticket, body }) {
+            Sent::Reply {
+                conn,
+                body: Body::Text(reply),
+                ..
+            } => line(alloc, conn, &reply),
+            _ => Ok(String::new(alloc)),
+        }
+    }
+
+    /// A connection ends: none of its requests is answered any more.
+    pub fn end(&mut self, alloc: Global, conn: u32) -> Result<String, AllocError>
+        ensures ended { IfOk result (λ text. IsQuiet (Ends conn) self.old self.new (string_bytes text)) }
+        ensures open { is_some self.new.opened ≡ is_some self.old.opened }
+    {
+        let text = closed_text(alloc, conn)?;
+        self.desk.cancel_conn(conn);
+        Ok(text)
+    }
+
     /// A WRITE.
-    fn write<C: Cluster>(
+    pub fn write<C: Cluster>(
         &mut self,
         alloc: Global,
         conn: u32,
@@ -172,7 +206,8 @@ impl World {
         requires both { is_some body.old ≡ is_some self.old.opened }
         requires home { Home C.File.tells (C.at cluster.old body_id) (option_map (λ b. C.File.mark b) body.old) }
         requires few { length call.content ≤ 1048576 }
-        ensures ok { IfOk result (λ text. IsStep C.File.tells (WriteEvent conn call) self.old self.new (string_bytes text) false
+        requires below { call.offset + length call.content < 2 ^ 63 }
+        ensures ok { IfOk result (λ text. IsStep C.File.tells (Writes conn call) self.old self.new (string_bytes text) false
             (body_at (C.at cluster.old body_id) (option_map (λ b. C.File.content b) body.old)) (body_at (C.at cluster.new body_id) (option_map (λ b. C.File.content b) body.new))
             (faults_at (C.count cluster.old) (option_map (λ b. C.File.count b) body.old)) (faults_at (C.count cluster.new) (option_map (λ b. C.File.count b) body.new))) }
         ensures err { OnErr result (Untouched C.File.tells
@@ -185,9 +220,6 @@ impl World {
         let Ok(ticket) = self.desk.issue(conn, call.xid) else {
             return Err(AllocError);
         };
-        if end_of(call.offset, call.content.len() as u32).is_none() {
-            return self.answer(alloc, refused(ticket, FBIG));
-        }
         if !self.open(alloc, cluster, body)? {
             return self.answer(alloc, refused(ticket, IO));
         }
@@ -195,16 +227,16 @@ impl World {
     }
 
     /// The first job of the open file is done.
-    fn turn<F: AppendFile>(
+    pub fn turn<F: AppendFile>(
         &mut self,
         alloc: Global,
         body: &mut Option<F>,
     ) -> Result<String, AllocError>
         requires both { is_some body.old ≡ is_some self.old.opened }
-        ensures ok { (s : ObjectState) (n : ℕ) → IfOk result (λ text. IsStep F.tells TurnEvent self.old self.new (string_bytes text) false
+        ensures ok { (s : ObjectState) (n : ℕ) → IfOk result (λ text. IsStep F.tells Turns self.old self.new (string_bytes text) false
             (body_at s (option_map (λ b. F.content b) body.old)) (body_at s (option_map (λ b. F.content b) body.new))
             (faults_at n (option_map (λ b. F.count b) body.old)) (faults_at n (option_map (λ b. F.count b) body.new))) }
-        ensures err { (s : ObjectState) (n : ℕ) → OnErr result (IsCut F.tells TurnEvent self.old
+        ensures err { (s : ObjectState) (n : ℕ) → OnErr result (IsCut F.tells Turns self.old
             (body_at s (option_map (λ b. F.content b) body.old)) (body_at s (option_map (λ b. F.content b) body.new))
             (faults_at n (option_map (λ b. F.count b) body.old)) (faults_at n (option_map (λ b. F.count b) body.new))) }
         ensures both_after { is_some body.new ≡ is_some self.new.opened }
@@ -219,33 +251,6 @@ impl World {
         match file.turn(body) {
             Some(answer) => self.answer(alloc, answer),
             None => Ok(String::new(alloc)),
-        }
-    }
-
-    /// Does an event, and gives what it writes.
-    pub fn step<C: Cluster>(
-        &mut self,
-        alloc: Global,
-        event: Event,
-        cluster: &mut C,
-        body: &mut Option<C::File>,
-    ) -> Stepped
-        requires both { is_some body.old ≡ is_some self.old.opened }
-        requires ready { IsReady C.File.tells event (C.at cluster.old body_id) (option_map (λ b. C.File.mark b) body.old) }
-        requires small { IsSmall event }
-        ensures step { IsStepped C.File.tells result event self.old self.new
-            (body_at (C.at cluster.old body_id) (option_map (λ b. C.File.content b) body.old)) (body_at (C.at cluster.new body_id) (option_map (λ b. C.File.content b) body.new))
-            (faults_at (C.count cluster.old) (option_map (λ b. C.File.count b) body.old)) (faults_at (C.count cluster.new) (option_map (λ b. C.File.count b) body.new)) }
-        ensures both_after { IsText result → is_some body.new ≡ is_some self.new.opened }
-        ensures others { C.File.tells → (q : ObjectId) → q ≢ body_id → C.at cluster.new q ≡ C.at cluster.old q }
-        ensures safe { Safe C.File.tells (C.at cluster.new body_id) (option_map (λ b. C.File.mark b) body.new) }
-        ensures home { IsText result → Home C.File.tells (C.at cluster.new body_id) (option_map (λ b. C.File.mark b) body.new) }
-        ensures cause { result ≡ Stepped.StoreFault → Rose (faults_at (C.count cluster.old) (option_map (λ b. C.File.count b) body.old)) (faults_at (C.count cluster.new) (option_map (λ b. C.File.count b) body.new)) }
-    {
-        match event {
-            Event::MakeFile => make_file(alloc, cluster),
-            Event::Write { conn, call } => told(self.write(alloc, conn, call, cluster, body)),
-            Event::Turn => told(self.turn(alloc, body)),
         }
     }
 

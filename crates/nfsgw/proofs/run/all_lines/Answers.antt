@@ -1,4 +1,4 @@
-use Rattle.std.proofs.Common.{◌≡◌, ◌<◌, ◌+◌, ◌∙◌, false, refl, arith}
+use Rattle.std.proofs.Common.{◌≡◌, ◌<◌, ◌+◌, ◌∙◌, false, refl, sym, arith}
 use Rattle.std.specs.Prelude.{◌==◌}
 use Rattle.std.proofs.lemmas.Bool.Decides.{nat_tests}
 use Rattle.append_store.specs.State.{bytes_of}
@@ -11,7 +11,8 @@ pub loop-before-init : goal.loop-before-init
 loop-before-init g c = record {
   reached = rw (c.requires.fresh, c.requires.no_body, c.new-lines.ensures) (reached_start g.C.File.AppendFile.tells (record { left = g.S.Source.left c.args.source.now; held = g.K.Sink.held c.args.sink.now; body = bytes_of (g.C.Cluster.at c.args.cluster.now body_id); faults = g.C.Cluster.count c.args.cluster.now }));
   both = rw (c.requires.fresh, c.requires.no_body) refl;
-  stands = rw c.requires.no_body (refl, c.requires.home);
+  stands = rw (c.requires.fresh, c.requires.no_body) (refl, c.requires.home);
+  first = λ e. rw c.requires.fresh refl;
   others = λ told q apart. refl;
   source_later = omega arith;
   sink_later = omega arith;
@@ -43,7 +44,8 @@ loop-before-preserved g c =
     record {
       reached = rw no (reached_more g.C.File.AppendFile.tells _ _ _ _ _ inv.reached e.moves);
       both = e.both_after refl;
-      stands = rw no (e.home refl);
+      stands = e.stands_after refl;
+      first = λ e. absurd (cc (sym no ∙ e));
       others = λ told q apart. e.others told q apart ∙ inv.others told q apart;
       source_later = omega arith;
       sink_later = omega arith;

@@ -9,7 +9,7 @@ pub returns-in-StoreFault-clause-run : goal.returns-in-StoreFault-clause-run
 returns-in-StoreFault-clause-run g c =
     let ending = c.all_lines-ending.result in
     let e = c.all_lines-ending.ensures in
-    rw c.status_of.ensures (runs_cut g.C.File.AppendFile.tells ending.turn ending.lines c.all_lines-ending.new.world
+    rw c.status_of.ensures (runs_cut g.C.File.AppendFile.tells ending.turn ending.lines c.all_lines-ending.new.gateway
     (g.S.Source.left c.args.source.now) (g.S.Source.left c.all_lines-ending.new.source) (g.K.Sink.held c.args.sink.now) (g.K.Sink.held c.all_lines-ending.new.sink)
     (bytes_of (g.C.Cluster.at c.args.cluster.now body_id)) (body_at (g.C.Cluster.at c.all_lines-ending.new.cluster body_id) (option_map (λ b. g.C.File.AppendFile.content b) c.all_lines-ending.new.body)) (bytes_of (g.C.Cluster.at c.give_back.new.cluster body_id))
     (g.C.Cluster.count c.args.cluster.now) (g.C.Cluster.count c.all_lines-ending.new.cluster) (option_map (λ b. g.C.File.AppendFile.count b) c.all_lines-ending.new.body) (g.C.Cluster.count c.give_back.new.cluster)
@@ -21,7 +21,7 @@ returns-in-Whole g c =
     let e = c.all_lines-ending.ensures in
     let s = c.status_of-in-Whole.ensures in
     record {
-      run = rw s (runs_whole g.C.File.AppendFile.tells ending.turn ending.lines c.all_lines-ending.new.world
+      run = rw s (runs_whole g.C.File.AppendFile.tells ending.turn ending.lines c.all_lines-ending.new.gateway
           (g.S.Source.left c.args.source.now) (g.S.Source.left c.all_lines-ending.new.source) (g.K.Sink.held c.args.sink.now) (g.K.Sink.held c.all_lines-ending.new.sink)
           (bytes_of (g.C.Cluster.at c.args.cluster.now body_id)) (body_at (g.C.Cluster.at c.all_lines-ending.new.cluster body_id) (option_map (λ b. g.C.File.AppendFile.content b) c.all_lines-ending.new.body)) (bytes_of (g.C.Cluster.at c.give_back.new.cluster body_id))
           (g.C.Cluster.count c.args.cluster.now) (g.C.Cluster.count c.all_lines-ending.new.cluster) (option_map (λ b. g.C.File.AppendFile.count b) c.all_lines-ending.new.body) (g.C.Cluster.count c.give_back.new.cluster)
@@ -41,7 +41,7 @@ returns-in-WriteFault g c =
     let rose = c.write_history.ensures.cause c.in-WriteFault.is in
     let later = e.sink_later in
     record {
-      run = runs_short g.C.File.AppendFile.tells ending.turn ending.lines c.all_lines-ending.new.world
+      run = runs_short g.C.File.AppendFile.tells ending.turn ending.lines c.all_lines-ending.new.gateway
           (g.S.Source.left c.args.source.now) (g.S.Source.left c.all_lines-ending.new.source) (g.K.Sink.held c.args.sink.now) (g.K.Sink.held c.all_lines-ending.new.sink)
           (bytes_of (g.C.Cluster.at c.args.cluster.now body_id)) (body_at (g.C.Cluster.at c.all_lines-ending.new.cluster body_id) (option_map (λ b. g.C.File.AppendFile.content b) c.all_lines-ending.new.body)) (bytes_of (g.C.Cluster.at c.give_back.new.cluster body_id))
           (g.C.Cluster.count c.args.cluster.now) (g.C.Cluster.count c.all_lines-ending.new.cluster) (option_map (λ b. g.C.File.AppendFile.count b) c.all_lines-ending.new.body) (g.C.Cluster.count c.give_back.new.cluster)
@@ -59,7 +59,7 @@ returns g c =
     let ending = c.all_lines-ending.result in
     let e = c.all_lines-ending.ensures in
     record {
-      run = runs_unwritten g.C.File.AppendFile.tells ending.turn ending.lines c.all_lines-ending.new.world
+      run = runs_unwritten g.C.File.AppendFile.tells ending.turn ending.lines c.all_lines-ending.new.gateway
           (g.S.Source.left c.args.source.now) (g.S.Source.left c.all_lines-ending.new.source) (g.K.Sink.held c.args.sink.now) (g.K.Sink.held c.all_lines-ending.new.sink)
           (bytes_of (g.C.Cluster.at c.args.cluster.now body_id)) (body_at (g.C.Cluster.at c.all_lines-ending.new.cluster body_id) (option_map (λ b. g.C.File.AppendFile.content b) c.all_lines-ending.new.body)) (bytes_of (g.C.Cluster.at c.give_back.new.cluster body_id))
           (g.C.Cluster.count c.args.cluster.now) (g.C.Cluster.count c.all_lines-ending.new.cluster) (option_map (λ b. g.C.File.AppendFile.count b) c.all_lines-ending.new.body) (g.C.Cluster.count c.give_back.new.cluster)

@@ -1,0 +1,88 @@
+-- What a whole message asks for (RFC 5531 section 9; RFC 1813 sections 2.5, 2.6, 3.3.0, 3.3.7, 5.2.0).
+use Rattle.std.specs.Prelude.{ℕ, ◌==◌, ◌||◌, ◌&&◌, bytes_eq, not, Bool, if◌then◌else◌, List, ◌++◌, length, take, drop, Option, Some, None, Result, Ok, Err}
+use Rattle.gw_model.specs.declared.Stable.{Stable}
+use Rattle.gw_model.specs.declared.Stable.TheVariants.{Unstable}
+use Rattle.md5.specs.Md5.{md5}
+use Rattle.handles.specs.Handle.{handle_text}
+use Rattle.xdr.specs.declared.fault.XdrFault.{XdrFault}
+use Rattle.xdr.specs.Items.{word}
+use Rattle.xdr.specs.Reading.{start, next_word}
+use Rattle.rpc_msg.specs.declared.fault.CallFault.{CallFault}
+use Rattle.rpc_msg.specs.declared.fault.CallFault.TheVariants.{NotCall, RpcMismatch, BadCred, RejectedCred, Short, Memory}
+use Rattle.rpc_msg.specs.Calls.{CallText, call_of}
+use Rattle.rpc_msg.specs.Replies.{accepted, mismatched, denied}
+use Rattle.nfs_wire.specs.declared.args.Args.{Args}
+use Rattle.nfs_wire.specs.declared.args.Args.TheVariants as args
+use Rattle.nfs_wire.specs.Arguments.{args_of}
+use Rattle.nfsgw.specs.declared.message.WriteArgs.{WriteArgs}
+use Rattle.nfsgw.specs.declared.message.Asked.{Asked}
+use Rattle.nfsgw.specs.declared.message.Asked.TheVariants.{Ends, Says, Writes}
+use Rattle.nfsgw.specs.declared.message.TheConstants.{SUCCESS, PROG_UNAVAIL, PROG_MISMATCH, PROC_UNAVAIL, GARBAGE_ARGS, AUTH_BADCRED, AUTH_REJECTEDCRED, NFS_PROGRAM, MOUNT_PROGRAM, VERSION, NULL, WRITE, BADHANDLE, STALE, INVAL}
+
+-- the number of the first four bytes
+abbrev pub xid_of : List ℕ → ℕ
+xid_of message = next_word (start message)
+
+-- an accepted reply without results
+abbrev pub reply_to : ℕ → ℕ → Asked
+reply_to xid stat = Says xid (accepted xid stat)
+
+-- the reply to a call of another version than 3, which is the lowest and the highest
+abbrev pub mismatch_text : ℕ → List ℕ
+mismatch_text xid = accepted xid PROG_MISMATCH ++ word VERSION ++ word VERSION
+
+-- a WRITE has to be UNSTABLE
+abbrev pub write_with : ℕ → Stable → WriteArgs → Asked
+write_with xid Unstable q = Writes xid q
+write_with xid _ q = reply_to xid PROC_UNAVAIL
+
+-- the arguments of a procedure that is served
+abbrev pub asked_with : ℕ → Args → Asked
+asked_with xid args.Null = reply_to xid SUCCESS
+asked_with xid args.MountNull = reply_to xid SUCCESS
+asked_with xid (args.Write handle offset count stable bytes) = write_with xid stable (record { handle = handle; offset = offset; count = count; «data» = bytes })
+asked_with xid _ = reply_to xid PROC_UNAVAIL
+
+abbrev pub asked_by_args : ℕ → Result Args XdrFault → Asked
+asked_by_args xid (Ok a) = asked_with xid a
+asked_by_args xid (Err fault) = reply_to xid GARBAGE_ARGS
+
+-- the procedures that are served: NULL of both programs, and WRITE
+abbrev pub is_served : ℕ → ℕ → Bool
+is_served prog proc_no = proc_no == NULL || prog == NFS_PROGRAM && proc_no == WRITE
+
+-- a call: its program, version and procedure are judged in this order, and then its arguments
+abbrev pub asked_by_call : CallText → Asked
+asked_by_call call =
+    if not (call.prog == NFS_PROGRAM || call.prog == MOUNT_PROGRAM) then reply_to call.xid PROG_UNAVAIL
+    else if not (call.vers == VERSION) then Says call.xid (mismatch_text call.xid)
+    else if not (is_served call.prog call.proc_no) then reply_to call.xid PROC_UNAVAIL
+    else asked_by_args call.xid (args_of call.prog call.proc_no call.args)
+
+-- What isn't a call ends its connection. The reading of a message never wants memory.
+abbrev pub asked_by_fault : CallFault → Asked
+asked_by_fault NotCall = Ends
+asked_by_fault Short = Ends
+asked_by_fault (RpcMismatch xid) = Says xid (mismatched xid)
+asked_by_fault (BadCred xid) = Says xid (denied xid AUTH_BADCRED)
+asked_by_fault (RejectedCred xid) = Says xid (denied xid AUTH_REJECTEDCRED)
+asked_by_fault (Memory xid) = Ends
+
+abbrev pub asked_by : Result CallText CallFault → Asked
+asked_by (Ok call) = asked_by_call call
+asked_by (Err fault) = asked_by_fault fault
+
+abbrev pub asked_of : List ℕ → Asked
+asked_of message = asked_by (call_of message)
+
+-- whether bytes are a handle of this gateway: the last 16 of its 32 bytes are the digest of the first 16
+abbrev pub is_handle : List ℕ → Bool
+is_handle bytes = length bytes == 32 && bytes_eq (md5 (take 16 bytes)) (drop 16 bytes)
+
+-- the status by which a WRITE is refused before its range is looked at, where file 4 is in the tree or isn't
+abbrev pub refusal_of : Bool → WriteArgs → Option ℕ
+refusal_of in_tree q =
+    if not (is_handle q.handle) then Some BADHANDLE
+    else if not (in_tree && bytes_eq q.handle (handle_text 4 1)) then Some STALE
+    else if not (q.count == length q.data) then Some INVAL
+    else None

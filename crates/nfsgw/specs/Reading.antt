@@ -1,0 +1,27 @@
+-- What the reading of a message answers: what it asks for, or want of memory.
+use Rattle.std.specs.Prelude.{◌≡◌, ℕ, ◌≤◌, length, Result, Ok, Err}
+use Rattle.rpc_msg.specs.declared.fault.CallFault.{CallFault}
+use Rattle.rpc_msg.specs.declared.fault.CallFault.TheVariants.{NotCall, RpcMismatch, BadCred, RejectedCred, Short, Memory}
+use Rattle.nfsgw.specs.declared.message.Refused.{Refused}
+use Rattle.nfsgw.specs.declared.message.Asked.{Asked}
+use Rattle.nfsgw.specs.declared.message.Asked.TheVariants.{Ends, Says, Writes}
+
+-- the request with this xid asks for this, or memory was wanting for it
+abbrev pub Gives : Result Asked Refused → ℕ → Asked → Type 0
+Gives (Ok a) xid asked = a ≡ asked
+Gives (Err e) xid asked = e.xid ≡ xid
+
+-- a fault of a message whose xid is this one
+abbrev pub HasXid : CallFault → ℕ → Type 0
+HasXid NotCall n = ⊥
+HasXid Short n = ⊥
+HasXid (RpcMismatch xid) n = n ≡ xid
+HasXid (BadCred xid) n = n ≡ xid
+HasXid (RejectedCred xid) n = n ≡ xid
+HasXid (Memory xid) n = n ≡ xid
+
+-- the most data that a WRITE may have
+abbrev pub IsFew : Asked → Type 0
+IsFew Ends = Unit {0}
+IsFew (Says xid reply) = Unit {0}
+IsFew (Writes xid args) = length args.data ≤ 1048576
