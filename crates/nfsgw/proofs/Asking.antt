@@ -1,5 +1,5 @@
 -- What a message asks for carries the xid of its first word, and a WRITE's data is short.
-use Rattle.std.proofs.Common.{◌≡◌, ◌≢◌, ℕ, ◌≤◌, Bool, true, false, cond, ◌==◌, ◌||◌, nat_lt, not, List, ◌++◌, length, refl, sym, ◌∙◌, subst, Result, Ok, Err, IfOk, IfErr}
+use Rattle.std.proofs.Common.{◌≡◌, ◌≢◌, ℕ, Bool, true, false, cond, ◌==◌, ◌||◌, nat_lt, not, List, length, refl, sym, ◌∙◌, subst, Result, Ok, Err, IfOk, IfErr}
 use Rattle.gw_model.specs.declared.Stable.TheVariants.{Unstable, DataSync, FileSync}
 use Rattle.xdr.specs.declared.fault.XdrFault.{XdrFault}
 use Rattle.xdr.specs.declared.fault.XdrFault.TheVariants as xdr
@@ -16,12 +16,12 @@ use Rattle.nfs_wire.proofs.Procedures.{args_forth}
 use Rattle.nfsgw.specs.declared.message.Asked.{Asked}
 use Rattle.nfsgw.specs.declared.message.Refused.{Refused}
 use Rattle.nfsgw.specs.declared.message.TheConstants.{NFS_PROGRAM, MOUNT_PROGRAM, VERSION}
-use Rattle.nfsgw.specs.Messages.{xid_of, asked_with, asked_by_args, is_served, asked_by_call}
-use Rattle.nfsgw.specs.Reading.{Gives, HasXid, IsFew}
+use Rattle.nfsgw.specs.Messages.{xid_of, IsFew, asked_with, asked_by_args, is_served, asked_by_call}
+use Rattle.nfsgw.specs.Asking.{Gives, HasXid}
 
 -- the xid
 
-abbrev pub HasOnly : CallFault → ℕ → Type 0
+abbrev HasOnly : CallFault → ℕ → Type 0
 HasOnly fault n = (x : ℕ) → HasXid fault x → x ≡ n
 
 -- a value that is so, or a fault of a message whose xid is n

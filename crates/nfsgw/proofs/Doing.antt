@@ -117,3 +117,20 @@ cuts_untouched tells acts old body body' faults faults' u =
       fails = omega (arith, l);
       later = l;
     }
+
+-- acts that were done, of which more were to come
+pub does_cut : (tells : Type 0) (acts more total : List Act) (old mid : State) (t body between : List ℕ) (faults count : ℕ) → Does tells acts old mid t body between faults count → total ≡ acts ++ more
+    → (body' : List ℕ) (count' : ℕ) → (tells → body' ≡ between) → count ≤ count' → Cuts tells total old body body' faults count'
+does_cut tells acts more total old mid t body between faults count d is body' count' same up =
+    let f = d.fails in
+    let l = d.later in
+    record {
+      calls = d.calls;
+      put = d.put;
+      front = λ told rest later.
+          let g = ap (λ xs. gone_of body old (xs ++ rest) (ahead_of (d.calls ++ later))) is ∙ ap (λ xs. gone_of body old xs (ahead_of (d.calls ++ later))) (append_assoc acts more rest) ∙ d.next told (more ++ rest) later in
+          (_, ap (λ (x : Gone). x.put) g);
+      puts = λ told. same told ∙ d.puts told;
+      fails = omega (arith, f, up);
+      later = omega (arith, l, up);
+    }

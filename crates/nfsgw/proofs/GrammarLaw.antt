@@ -145,7 +145,7 @@ on_turn first text line false t f = on_bytes first text line (starts_with nat_eq
 
 on_end : (first : Bool) (text : List ℕ) (line : Line) (b : Bool) → bytes_eq text (codes "end") ≡ b
     → cond b (Some End)
-        (cond (bytes_eq text (codes "turn 4")) (Some (Go Turn)) (cond (starts_with nat_eq text (codes "bytes ")) (bytes_line (drop 6 text) (position (λ b. b == 32) (drop 6 text))) (file_line first text)))
+    (cond (bytes_eq text (codes "turn 4")) (Some (Go Turn)) (cond (starts_with nat_eq text (codes "bytes ")) (bytes_line (drop 6 text) (position (λ b. b == 32) (drop 6 text))) (file_line first text)))
     ≡ Some line → IsLine first text line
 on_end first text line true t f = let is : line ≡ End = cc in subst (IsLine first text) (sym is) ((bytes_eq-Decides text (codes "end")).0 t)
 on_end first text line false t f = on_turn first text line (bytes_eq text (codes "turn 4")) refl f

@@ -1,5 +1,5 @@
 -- What the records of a piece ask for, one after another.
-use Rattle.std.proofs.Common.{◌≡◌, ℕ, ◌+◌, ◌<◌, Bool, true, false, List, [], ◌∷◌, ◌++◌, length, drop, refl, sym, ◌∙◌, ap, subst, append_assoc, append-nil, length-append, string_bytes, arith}
+use Rattle.std.proofs.Common.{◌≡◌, ℕ, ◌+◌, ◌<◌, ◌≤◌, Bool, true, false, List, [], ◌∷◌, ◌++◌, length, drop, refl, sym, ◌∙◌, ap, subst, append_assoc, append-nil, length-append, string_bytes, arith}
 use Rattle.rpc_record.specs.declared.fault.FrameFault.{FrameFault}
 use Rattle.rpc_record.specs.Records.{Records, Open, Fault, Whole, front, records}
 use Rattle.rpc_record.proofs.Fronts.{whole_shrinks}
@@ -8,10 +8,10 @@ use Rattle.nfsgw.specs.Acts.{Act, Ends, act_ends}
 use Rattle.nfsgw.specs.Requests.{act_of}
 use Rattle.nfsgw.specs.Links.{Heard, heard, heard_by, heard_then, heard_of}
 use Rattle.nfsgw.specs.Steps.{State}
-use Rattle.nfsgw.specs.Outside.{IsStep, IsQuiet, Does, IsServed, IsPieceServed}
+use Rattle.nfsgw.specs.Outside.{IsStep, IsQuiet, Does, Cuts, IsServed, IsPieceServed}
 use Rattle.nfsgw.specs.declared.link.Link.TheVariants as link
 use Rattle.nfsgw.specs.declared.gateway.Served.{Served}
-use Rattle.nfsgw.proofs.Doing.{quiet_step, does_none, does_more}
+use Rattle.nfsgw.proofs.Doing.{quiet_step, does_none, does_more, does_cut}
 
 -- acts were done before
 abbrev pub behind : List Act → Heard → Heard
@@ -31,6 +31,10 @@ heard_at in_tree conn r = heard in_tree conn r.whole r.end
 
 module _ (tells : Type 0) (in_tree : Bool) (conn : ℕ) (total : Heard) (held rest : List ℕ) (old mid : State) (t body between : List ℕ) (faults count : ℕ)
     (h : Hears tells in_tree conn total held rest old mid t body between faults count) where
+  -- memory was refused with the rest ahead
+  pub hears_cut : (body' : List ℕ) (count' : ℕ) → (tells → body' ≡ between) → count ≤ count' → Cuts tells total.acts old body body' faults count'
+  hears_cut body' count' same up = does_cut tells h.acts (heard_of in_tree conn (held ++ rest)).acts total.acts old mid t body between faults count h.does (ap (λ (x : Heard). x.acts) h.ahead) body' count' same up
+
   -- the rest is no whole record
   pub hears_more : (new : List ℕ) (s : Served) → front (held ++ rest) ≡ Open → new ≡ held ++ rest → string_bytes s.text ≡ t → s.ended ≡ false → IsPieceServed tells s total new old mid body between faults count
   unfolding heard_at
@@ -63,6 +67,19 @@ module _ (tells : Type 0) (in_tree : Bool) (conn : ℕ) (total : Heard) (held re
 
     done : Does tells (h.acts ++ act ∷ []) old next (t ++ u) body body' faults count'
     done = does_more tells h.acts act old mid next t u body between body' faults count count' h.does is.1
+
+    unfoldable more_acts : Bool → List Act
+    more_acts true = []
+    more_acts false = (heard_of in_tree conn (drop taken rest)).acts
+
+    total_acts : (b : Bool) → act_ends act ≡ b → total.acts ≡ (h.acts ++ act ∷ []) ++ more_acts b
+    unfolding more_acts records
+    total_acts true e = ap (λ (x : Heard). x.acts) (h.ahead ∙ ap (behind h.acts) (ahead_is ∙ ap (λ b. heard_by b act (heard_of in_tree conn (drop taken rest))) e)) ∙ sym (append-nil (h.acts ++ act ∷ []))
+    total_acts false e = ap (λ (x : Heard). x.acts) (h.ahead ∙ ap (behind h.acts) (ahead_is ∙ ap (λ b. heard_by b act (heard_of in_tree conn (drop taken rest))) e)) ∙ sym (append_assoc h.acts (act ∷ []) (heard_of in_tree conn (drop taken rest)).acts)
+
+    -- its record was served, and memory was refused then
+    pub hears_served_cut : Cuts tells total.acts old body body' faults count'
+    hears_served_cut = does_cut tells (h.acts ++ act ∷ []) (more_acts (act_ends act)) total.acts old next (t ++ u) body body' faults count' done (total_acts (act_ends act) refl) body' count' (λ told. refl) (omega arith)
 
     -- its record ended the connection
     pub hears_end : (new : List ℕ) (s : Served) → served.ended ≡ true → string_bytes s.text ≡ t ++ u → s.ended ≡ true → IsPieceServed tells s total new old next body body' faults count'

@@ -1,7 +1,7 @@
 mod NameLaw
 mod GrammarLaw
-mod Asking
-mod Refusing
+pub mod Asking
+mod Asks
 pub mod Waits
 pub mod Meeting
 pub mod Working
@@ -11,9 +11,13 @@ pub mod Traffic
 pub mod Doing
 pub mod StepCases
 pub mod StepWrites
+pub mod Replies
+pub mod Assembling
 pub mod Hearing
+pub mod Linking
 pub mod Runs
 pub mod Ready
+pub mod Small
 pub mod Few
 pub mod Finishes
 pub mod Scripts
@@ -25,3 +29,4 @@ mod Accepts
 mod Turns
 mod Ends
 mod Bridge
+mod Rows

@@ -2,6 +2,7 @@
 use Rattle.std.proofs.Common.{◌≡◌, ℕ, Bool, true, false, ◌+◌, ◌&&◌, take, drop, List, Option, Some, None, refl, subst}
 use Rattle.std.specs.Prelude.{bytes_eq, nat_eq, position, codes, ◌==◌, if◌then◌else◌}
 use Rattle.std.specs.List.{starts_with}
+use Rattle.std.specs.Option.{option_map}
 use Rattle.gw_model.specs.declared.object.ObjectId.{ObjectId}
 use Rattle.append_store.specs.State.{ObjectState, Missing, Kept, Lent, IsThere, IsAway}
 use Rattle.transcript.specs.Fields.{number_of, bytes_of}
@@ -25,6 +26,10 @@ home_safe tells s (Some m) h = h
 pub stands_safe : (tells : Type 0) (in_tree : Bool) (s : ObjectState) (mark : Option ObjectId) → Stands tells in_tree s mark → Safe tells s mark
 stands_safe tells false s mark h = h.1
 stands_safe tells true s mark h = home_safe tells s mark h
+
+pub unmapped : {X Y : Type 0} (f : X → Y) (o : Option X) → option_map f o ≡ None → o ≡ None
+unmapped f None none = refl
+unmapped f (Some x) none = absurd (cc none)
 
 -- only the first line makes the file
 abbrev IsKind : Bool → Option Line → Type 0

@@ -8,12 +8,12 @@ use Rattle.append_store.specs.Calls.{Creates, MayCreate}
 use Rattle.nfsgw.specs.Steps.{State, Serving, step_of}
 use Rattle.nfsgw.specs.Answers.{Untouched}
 use Rattle.nfsgw.specs.Acts.{Act, Make, Turns}
-use Rattle.nfsgw.specs.Links.{Front, arrival}
+use Rattle.nfsgw.specs.Links.{Front, link_at, piece_on, arrival}
 use Rattle.nfsgw.specs.Outside.{IsStep, IsCut, Cuts, IsActed, IsReceived, IsStepped}
 use Rattle.nfsgw.specs.declared.world.Stepped.{Stepped}
 use Rattle.nfsgw.specs.declared.world.Stepped.TheVariants as stepped
 use Rattle.nfsgw.specs.declared.grammar.Event.TheVariants.{MakeFile, Bytes, Turn}
-use Rattle.nfsgw.proofs.Doing.{does_one, stops_one, cuts_one, cuts_untouched}
+use Rattle.nfsgw.proofs.Doing.{does_one, stops_one, cuts_one}
 
 -- the numbers of a file's faults, with those of its store
 pub step_beside : (tells : Type 0) (act : Act) (old new : State) (text : List ℕ) (stopped : Bool) (body body' : List ℕ) (n faults faults' : ℕ)
@@ -106,12 +106,12 @@ made_stepped tells stepped.NoMemory old new body body' faults faults' m is = cut
 -- a piece came, and its text was made or not
 pub received_stepped : (tells : Type 0) (conn : ℕ) (piece : List ℕ) (r : Result (String Global) AllocError) (result : Stepped) (old new : Serving) (body body' : List ℕ) (faults faults' : ℕ)
     → IfOk r (λ t. result ≡ stepped.Text t) → OnErr r (result ≡ stepped.NoMemory)
-    → IfOk r (λ t. IsReceived tells conn piece old new (string_bytes t) body body' faults faults') → OnErr r (Untouched tells body body' faults faults')
+    → IfOk r (λ t. IsReceived tells conn piece old new (string_bytes t) body body' faults faults') → OnErr r (Cuts tells (piece_on (link_at conn old.front.links) conn piece old.front).acts old.state body body' faults faults')
     → IsStepped tells result (Bytes conn piece) old new body body' faults faults'
 unfolding arrival
 received_stepped tells conn piece (Ok t) result old new body body' faults faults' e f s u = subst (λ x. IsStepped tells x (Bytes conn piece) old new body body' faults faults') (sym e) s
 received_stepped tells conn piece (Err x) result old new body body' faults faults' e f s u =
-    subst (λ x. IsStepped tells x (Bytes conn piece) old new body body' faults faults') (sym f) (cuts_untouched tells (arrival old.front (Bytes conn piece)).acts old.state body body' faults faults' u)
+    subst (λ x. IsStepped tells x (Bytes conn piece) old new body body' faults faults') (sym f) u
 
 -- a turn, whose text was made or not
 pub turn_stepped : (tells : Type 0) (r : Result (String Global) AllocError) (result : Stepped) (old new : Serving) (body body' : List ℕ) (faults faults' : ℕ)

@@ -7,13 +7,13 @@ use Rattle.gw_model.specs.File as model
 use Rattle.gw_model.specs.File.{Answer, NotWritten, Wrote, Job, Side, Writer}
 use Rattle.gw_model.specs.Admission.{io}
 use Rattle.gw_model.specs.Writer.{WriterStep}
-use Rattle.tickets.specs.Desk.{TicketId, DeskState, issued, answered, owed}
+use Rattle.tickets.specs.Desk.{TicketId, DeskState, issued, answered, cancelled, owed}
 use Rattle.tickets.specs.declared.answer.Answer.{Answer as AnswerTerm}
 use Rattle.tickets.specs.declared.answer.Body.{Body}
 use Rattle.tickets.specs.declared.answer.Body.TheVariants as body
 use Rattle.tickets.specs.declared.desk.Sent.{Sent as SentTerm}
 use Rattle.tickets.specs.declared.desk.Sent.TheVariants as sent
-use Rattle.nfsgw.specs.Text.{reply_line}
+use Rattle.nfsgw.specs.Text.{reply_line, closed_line}
 use Rattle.nfsgw.specs.Headline.{Fails, ahead_of}
 use Rattle.gw_model.specs.Sides.{side_write}
 use Rattle.nfsgw.specs.World.{Sent, send, told_to, text_to, spent, reply_bytes, request, unlimited}
@@ -21,7 +21,7 @@ use Rattle.nfsgw.specs.Steps.{Context, State, Step, fresh, says, placed, write_i
 use Rattle.nfsgw.specs.Answers.{answer_of, body_of, level_of, IsWrite, IsDone, Placed, Works}
 use Rattle.nfsgw.specs.Outside.{IsStep, IsCut, IsQuiet, IsOpened, Took, TakesIn}
 use Rattle.nfsgw.specs.declared.call.WriteCall.{WriteCall}
-use Rattle.nfsgw.specs.Acts.{Says, Writes, Turns}
+use Rattle.nfsgw.specs.Acts.{Says, Writes, Ends, Turns}
 
 -- answers
 
@@ -82,6 +82,15 @@ text_said (Some t) result given conn xid reply bytes text some none b is same sa
     let c : conn ≡ t.conn = cc in
     let bytes_are : bytes ≡ reply = same cc in
     said ∙ ap (λ k. reply_line k bytes) c ∙ ap (reply_line t.conn) bytes_are
+
+pub said_quiet : (old new : State) (conn xid : ℕ) (reply text : List ℕ) → new ≡ record old { desk = answered (old.desk.last + 1) (issued conn xid old.desk) } → text ≡ text_to (owed (old.desk.last + 1) (issued conn xid old.desk)) reply
+    → IsQuiet (Says conn xid reply) old new text
+unfolding step_of
+said_quiet old new conn xid reply text is said = λ content t. rw (is, said) refl
+
+pub ended_quiet : (old new : State) (conn : ℕ) (text : List ℕ) → new ≡ record old { desk = cancelled conn old.desk } → text ≡ closed_line conn → IsQuiet (Ends conn) old new text
+unfolding step_of
+ended_quiet old new conn text is said = λ content t. rw (is, said) refl
 
 pub text_unsaid : (o : Option TicketId) (result : SentTerm) (reply : List ℕ) → ((result ≡ sent.Cancelled) ↔ (o ≡ None)) → result ≡ sent.Cancelled → [] ≡ text_to o reply
 text_unsaid o result reply none is = sym (ap (λ x. text_to x reply) (none.0 is))

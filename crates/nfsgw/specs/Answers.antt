@@ -32,6 +32,11 @@ body_of (body.Read status eof bytes) = if status == 0 then Gave bytes.items eof 
 body_of (body.Text bytes) = Silence
 body_of body.SystemErr = SystemErr
 
+-- the reply that an answer is, where it is a text
+abbrev pub text_in : Body → List ℕ
+text_in (body.Text bytes) = bytes.items
+text_in _ = []
+
 abbrev pub answer_of : Answer → model.Answer
 answer_of a = record { ticket = a.ticket.number; body = body_of a.body }
 

@@ -1,7 +1,7 @@
 pub mod Text
 pub mod Acts
 pub mod Messages
-pub mod Reading
+pub mod Asking
 pub mod Requests
 pub mod Streams
 pub mod Links

@@ -1,5 +1,5 @@
 -- What a whole message asks for (RFC 5531 section 9; RFC 1813 sections 2.5, 2.6, 3.3.0, 3.3.7, 5.2.0).
-use Rattle.std.specs.Prelude.{ℕ, ◌==◌, ◌||◌, ◌&&◌, bytes_eq, not, Bool, if◌then◌else◌, List, ◌++◌, length, take, drop, Option, Some, None, Result, Ok, Err}
+use Rattle.std.specs.Prelude.{ℕ, ◌≤◌, ◌==◌, ◌||◌, ◌&&◌, bytes_eq, not, Bool, if◌then◌else◌, List, ◌++◌, length, take, drop, Option, Some, None, Result, Ok, Err}
 use Rattle.gw_model.specs.declared.Stable.{Stable}
 use Rattle.gw_model.specs.declared.Stable.TheVariants.{Unstable}
 use Rattle.md5.specs.Md5.{md5}
@@ -74,6 +74,12 @@ asked_by (Err fault) = asked_by_fault fault
 
 abbrev pub asked_of : List ℕ → Asked
 asked_of message = asked_by (call_of message)
+
+-- no more data than a WRITE may have
+abbrev pub IsFew : Asked → Type 0
+IsFew Ends = Unit {0}
+IsFew (Says xid reply) = Unit {0}
+IsFew (Writes xid args) = length args.data ≤ 1048576
 
 -- whether bytes are a handle of this gateway: the last 16 of its 32 bytes are the digest of the first 16
 abbrev pub is_handle : List ℕ → Bool

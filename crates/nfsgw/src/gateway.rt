@@ -1,16 +1,16 @@
 // Connections, file and desk: what each event asks for is done act by act.
-ghost use Rattle.std.specs.Prelude.{◌≡◌, ◌≢◌, ◌≤◌, ◌<◌, ◌+◌, ◌++◌, ◌∷◌, ◌^◌, ℕ, List, [], IfOk, OnOk, OnErr, is_some, length, string_bytes, true, false};
+ghost use Rattle.std.specs.Prelude.{◌≡◌, ◌≢◌, ◌≤◌, ◌<◌, ◌+◌, ◌++◌, ◌∷◌, ◌^◌, ℕ, List, [], IfOk, OnOk, OnErr, is_some, drop, length, string_bytes, true, false};
 ghost use Rattle.std.specs.Option.{option_map};
 ghost use Rattle.gw_outside.specs.Causes.{Rose};
 ghost use Rattle.gw_model.specs.declared.object.ObjectId.{ObjectId};
 ghost use Rattle.nfsgw.specs.Steps.{idle, end_history};
-ghost use Rattle.nfsgw.specs.Links.{heard_of};
+ghost use Rattle.nfsgw.specs.Links.{heard_of, link_at, piece_on};
 ghost use Rattle.nfsgw.specs.Requests.{act_of, act_in, IsFitting};
 ghost use Rattle.nfsgw.specs.Answers.{Untouched};
-ghost use Rattle.nfsgw.specs.Outside.{body_id, body_at, faults_at, Safe, Stands, IsReady, IsText, IsServed, IsPieceServed, IsReceived, IsStepped};
+ghost use Rattle.nfsgw.specs.Outside.{body_id, body_at, faults_at, Safe, Stands, IsReady, IsText, Cuts, IsServed, IsPieceServed, IsReceived, IsStepped};
 
 use crate::grammar::Event;
-use crate::link::{Link, open_link};
+use crate::link::{Link, give_link, link_after, take_link};
 use crate::request::{Request, read_request};
 use crate::stream::{Heard, Stream};
 use crate::world::{Stepped, World, make_file, told};
@@ -68,12 +68,20 @@ fn serve_request<C: Cluster>(
     ensures others { C.File.tells → (q : ObjectId) → q ≢ body_id → C.at cluster.new q ≡ C.at cluster.old q }
     ensures stands_after { Stands C.File.tells in_tree (C.at cluster.new body_id) (option_map (λ b. C.File.mark b) body.new) }
 {
-    let (text, ended) = match request {
-        Request::Ends => (world.end(alloc, conn)?, true),
-        Request::Says { xid, reply } => (world.say(alloc, conn, xid, reply.as_slice())?, false),
-        Request::Writes(call) => (world.write(alloc, conn, call, cluster, body)?, false),
-    };
-    Ok(Served { text, ended })
+    match request {
+        Request::Ends => {
+            let text = world.end(alloc, conn)?;
+            Ok(Served { text, ended: true })
+        }
+        Request::Says { xid, reply } => {
+            let text = world.say(alloc, conn, xid, reply.as_slice())?;
+            Ok(Served { text, ended: false })
+        }
+        Request::Writes(call) => {
+            let text = world.write(alloc, conn, call, cluster, body)?;
+            Ok(Served { text, ended: false })
+        }
+    }
 }
 
 // Does what a message asks for.
@@ -102,6 +110,14 @@ fn serve_message<C: Cluster>(
     serve_request(alloc, in_tree, conn, request, world, cluster, body)
 }
 
+// What a piece has behind its first bytes.
+fn behind(piece: &[u8], taken: usize) -> &[u8]
+    requires { taken ≤ length piece.now }
+    ensures { result.now ≡ drop taken piece.now }
+{
+    &piece[taken..]
+}
+
 // Does what the records ask for that a piece completes.
 fn serve_piece<C: Cluster>(
     alloc: Global,
@@ -118,7 +134,7 @@ fn serve_piece<C: Cluster>(
     ensures ok { IfOk result (λ s. IsPieceServed C.File.tells s (heard_of in_tree conn (stream.old ++ piece.now)) stream.new world.old world.new
             (body_at (C.at cluster.old body_id) (option_map (λ b. C.File.content b) body.old)) (body_at (C.at cluster.new body_id) (option_map (λ b. C.File.content b) body.new))
             (faults_at (C.count cluster.old) (option_map (λ b. C.File.count b) body.old)) (faults_at (C.count cluster.new) (option_map (λ b. C.File.count b) body.new))) }
-    ensures err { OnErr result (Untouched C.File.tells
+    ensures err { OnErr result (Cuts C.File.tells (heard_of in_tree conn (stream.old ++ piece.now)).acts world.old
             (body_at (C.at cluster.old body_id) (option_map (λ b. C.File.content b) body.old)) (body_at (C.at cluster.new body_id) (option_map (λ b. C.File.content b) body.new))
             (faults_at (C.count cluster.old) (option_map (λ b. C.File.count b) body.old)) (faults_at (C.count cluster.new) (option_map (λ b. C.File.count b) body.new))) }
     ensures both_after { OnOk result (is_some body.new ≡ is_some world.new.opened) }
@@ -140,7 +156,7 @@ fn serve_piece<C: Cluster>(
                 if served.ended {
                     return Ok(Served { text, ended: true });
                 }
-                rest = &rest[taken..];
+                rest = behind(rest, taken);
             }
         }
     }
@@ -172,7 +188,7 @@ impl Gateway {
         ensures ok { IfOk result (λ text. IsReceived C.File.tells conn piece.now self.old self.new (string_bytes text)
             (body_at (C.at cluster.old body_id) (option_map (λ b. C.File.content b) body.old)) (body_at (C.at cluster.new body_id) (option_map (λ b. C.File.content b) body.new))
             (faults_at (C.count cluster.old) (option_map (λ b. C.File.count b) body.old)) (faults_at (C.count cluster.new) (option_map (λ b. C.File.count b) body.new))) }
-        ensures err { OnErr result (Untouched C.File.tells
+        ensures err { OnErr result (Cuts C.File.tells (piece_on (link_at conn self.old.front.links) conn piece.now self.old.front).acts self.old.state
             (body_at (C.at cluster.old body_id) (option_map (λ b. C.File.content b) body.old)) (body_at (C.at cluster.new body_id) (option_map (λ b. C.File.content b) body.new))
             (faults_at (C.count cluster.old) (option_map (λ b. C.File.count b) body.old)) (faults_at (C.count cluster.new) (option_map (λ b. C.File.count b) body.new))) }
         ensures both_after { OnOk result (is_some body.new ≡ is_some self.new.state.opened) }
@@ -180,19 +196,13 @@ impl Gateway {
         ensures stands_after { Stands C.File.tells self.old.front.in_tree (C.at cluster.new body_id) (option_map (λ b. C.File.mark b) body.new) }
         ensures same_tree { OnOk result (self.new.front.in_tree ≡ self.old.front.in_tree) }
     {
-        open_link(alloc, &mut self.links, conn)?;
-        let Some(link) = self.links.get_mut(&conn) else {
-            unreachable!();
-        };
-        let Link::Open(stream) = link else {
+        let Link::Open(mut stream) = take_link(alloc, &mut self.links, conn)? else {
             return Ok(String::new(alloc));
         };
         let served = serve_piece(
-            alloc, self.in_tree, conn, stream, piece, &mut self.world, cluster, body,
+            alloc, self.in_tree, conn, &mut stream, piece, &mut self.world, cluster, body,
         )?;
-        if served.ended {
-            *link = Link::Closed;
-        }
+        give_link(&mut self.links, conn, link_after(served.ended, stream));
         Ok(served.text)
     }
 

@@ -118,10 +118,14 @@ mod tests {
     fn sends(alloc: Global, text: &[u8], conn: u32, bytes: &[u8]) -> Result<bool, AllocError> {
         for first in [true, false] {
             match line_of(alloc, first, text)? {
-                Some(Line::Go(Event::Bytes {
-                    conn: sender,
-                    bytes: sent,
-                })) if sender == conn && sent.as_slice() == bytes => {}
+                Some(
+                    Line::Go(
+                        Event::Bytes {
+                            conn: sender,
+                            bytes: sent,
+                        },
+                    ),
+                ) if sender == conn && sent.as_slice() == bytes => {}
                 _ => return Ok(false),
             }
         }

@@ -1,12 +1,16 @@
 // The connections of a transcript.
-ghost use Rattle.std.specs.Prelude.{◌≡◌, ℕ, OnOk, OnErr, List};
+ghost use Rattle.std.specs.Prelude.{◌≡◌, OnOk, IfOk};
 ghost use Rattle.std.specs.Map.{set_value};
 ghost use Rattle.std.specs.Ordering.{nat_cmp};
-ghost use Rattle.nfsgw.specs.Links.{opened_by, link_at};
+ghost use Rattle.std.specs.BTreeMap.{is_at};
+ghost use Rattle.nfsgw.specs.Links.{opened_by, link_at, link_of};
+ghost use Rattle.nfsgw.specs.Outside.{link_after as link_after_of};
+ghost use Rattle.nfsgw.specs.declared.link.Link.TheVariants.{Closed};
 
 use crate::stream::Stream;
 use std::alloc::{AllocError, Global};
 use std::collections::BTreeMap;
+use std::mem;
 
 /// How a connection stands.
 #[derive(Drop)]
@@ -17,15 +21,40 @@ pub enum Link {
     Closed,
 }
 
-/// Opens a connection, if nothing came on it yet. Takes memory.
-pub fn open_link(alloc: Global, links: &mut BTreeMap<u32, Link>, conn: u32) -> Result<(), AllocError>
-    ensures { OnOk result (links.new.entries ≡ opened_by (link_at conn links.old.entries) conn links.old.entries) }
+/// Takes a connection's link, and leaves a closed one in its place. The first bytes open the connection. Takes memory.
+pub fn take_link(
+    alloc: Global,
+    links: &mut BTreeMap<u32, Link>,
+    conn: u32,
+) -> Result<Link, AllocError>
+    ensures link { IfOk result (λ link. link ≡ link_of (link_at conn links.old.entries)) }
+    ensures rest { OnOk result (links.new.entries ≡ set_value (is_at (nat_cmp conn)) (opened_by (link_at conn links.old.entries) conn links.old.entries) Closed) }
 {
-    if links.contains_key(&conn) {
-        return Ok(());
+    if let Some(link) = links.get_mut(&conn) {
+        return Ok(mem::replace(link, Link::Closed));
     }
-    match links.insert(conn, Link::Open(Stream::new(alloc))) {
-        Ok(_) => Ok(()),
+    match links.insert(conn, Link::Closed) {
+        Ok(_) => Ok(Link::Open(Stream::new(alloc))),
         Err(_) => Err(AllocError),
+    }
+}
+
+/// The link of a connection whose stream this is, or which ended.
+pub fn link_after(ended: bool, stream: Stream) -> Link
+    ensures { result ≡ link_after_of ended stream }
+{
+    if ended {
+        Link::Closed
+    } else {
+        Link::Open(stream)
+    }
+}
+
+/// Gives a connection that was opened its link back.
+pub fn give_link(links: &mut BTreeMap<u32, Link>, conn: u32, link: Link)
+    ensures { links.new.entries ≡ set_value (is_at (nat_cmp conn)) links.old.entries link }
+{
+    if let Some(place) = links.get_mut(&conn) {
+        *place = link;
     }
 }

@@ -1,10 +1,10 @@
 // What a whole message of a connection asks for.
-ghost use Rattle.std.specs.Prelude.{◌≡◌, ◌≢◌, ℕ, ◌≤◌, IfOk, IfErr, OnOk};
+ghost use Rattle.std.specs.Prelude.{◌≡◌, ◌≢◌, ℕ, IfOk, IfErr, OnOk};
 ghost use Rattle.rpc_msg.specs.declared.fault.CallFault.{CallFault};
 ghost use Rattle.rpc_msg.specs.Views.{call_view};
 ghost use Rattle.nfsgw.specs.declared.message.Asked.{Asked};
-ghost use Rattle.nfsgw.specs.Messages.{xid_of, is_served, reply_to, mismatch_text, write_with, asked_with, asked_by_call, asked_by_fault, asked_of, refusal_of};
-ghost use Rattle.nfsgw.specs.Reading.{Gives, HasXid, IsFew};
+ghost use Rattle.nfsgw.specs.Messages.{xid_of, is_served, reply_to, mismatch_text, write_with, asked_with, asked_by_call, asked_by_fault, asked_of, IsFew, refusal_of};
+ghost use Rattle.nfsgw.specs.Asking.{Gives, HasXid};
 
 use bytes::Bytes;
 use gw_model::{FileId, Stable};
@@ -31,14 +31,8 @@ pub enum Asked {
     /// It is no call: its connection ends.
     Ends,
     /// It is answered by this message at once.
-    Says {
-        xid: u32,
-        reply: Bytes,
-    },
-    Writes {
-        xid: u32,
-        args: WriteArgs,
-    },
+    Says { xid: u32, reply: Bytes },
+    Writes { xid: u32, args: WriteArgs },
 }
 
 /// Want of memory for a request whose xid was read.
@@ -201,12 +195,7 @@ fn args_asked(alloc: Global, xid: u32, args: Args) -> Result<Asked, Refused>
     }
 }
 
-fn write_asked(
-    alloc: Global,
-    xid: u32,
-    stable: Stable,
-    args: WriteArgs,
-) -> Result<Asked, Refused>
+fn write_asked(alloc: Global, xid: u32, stable: Stable, args: WriteArgs) -> Result<Asked, Refused>
     ensures { Gives result xid (write_with xid stable args) }
 {
     if stable != Stable::Unstable {
@@ -244,8 +233,13 @@ mod tests {
 
     const NULL_OF_MOUNT: [u32; 10] = [9, 0, 2, 100_005, 3, 0, 0, 0, 0, 0];
 
+    // The handle of file 4, whose digest was made by md5sum.
+    const FOUR: [u8; 32] = [
+        0, 0, 0, 0, 0, 0, 0, 4, 0, 0, 0, 0, 0, 0, 0, 1, 0x21, 0xe0, 0xf2, 0x97, 0x5a, 0x84, 0xe7,
+        0x8c, 0xec, 0x58, 0x78, 0x7a, 0xf2, 0x8b, 0xde, 0x14,
+    ];
 
-    // A WRITE of `abcde` at offset 2^32 + 2 of file 4, whose digest was made by md5sum.
+    // A WRITE of `abcde` at offset 2^32 + 2 of file 4.
     const WRITE_CALL: [u32; 26] = [
         9,
         0,
@@ -328,7 +322,8 @@ mod tests {
         // MOUNT has no procedure 7 as NFS has.
         assert!(rt; says_at(alloc, &NULL_OF_MOUNT, 5, 7, &[9, 1, 0, 0, 0, 3])?);
         // NULL has no arguments.
-        assert!(rt; says(alloc, message(alloc, &NULL_OF_NFS, &[0])?, &[9, 1, 0, 0, 0, 4])?);
+        let longer = message(alloc, &NULL_OF_NFS, &[0])?;
+        assert!(rt; says(alloc, longer, &[9, 1, 0, 0, 0, 4])?);
         Ok(())
     }
 
@@ -352,17 +347,27 @@ mod tests {
     fn reads_a_write(rt: HostRuntime) -> Result<(), Fail> {
         let alloc = rt.alloc();
         let call = message(alloc, &WRITE_CALL, &[])?;
+        let kept = call.clone()?;
         let Asked::Writes { xid, args } = read_message(alloc, call)? else {
             assert!(rt; false);
             return Ok(());
         };
         assert_eq!(rt; xid, 9);
-        assert_eq!(rt; args.handle.as_slice(), handle_of(FileId(4), 1).as_slice());
+        assert_eq!(rt; args.handle.as_slice(), FOUR.as_slice());
         assert_eq!(rt; args.offset, 0x1_0000_0002);
         assert_eq!(rt; args.count, 5);
         assert_eq!(rt; args.data.as_slice(), b"abcde".as_slice());
-        // A word too many: GARBAGE_ARGS. FILE_SYNC, a stability of 3.
-        assert!(rt; says(alloc, message(alloc, &WRITE_CALL, &[0])?, &[9, 1, 0, 0, 0, 4])?);
+        // The data shares the message's memory.
+        assert!(rt; !kept.is_unique());
+        Ok(())
+    }
+
+    #[test]
+    fn refuses_arguments(rt: HostRuntime) -> Result<(), Fail> {
+        let alloc = rt.alloc();
+        // A word too many, FILE_SYNC, and a stability that isn't there.
+        let longer = message(alloc, &WRITE_CALL, &[0])?;
+        assert!(rt; says(alloc, longer, &[9, 1, 0, 0, 0, 4])?);
         let mut words = WRITE_CALL;
         words[STABLE] = 2;
         assert!(rt; says(alloc, message(alloc, &words, &[])?, &[9, 1, 0, 0, 0, 3])?);
@@ -388,22 +393,29 @@ mod tests {
     }
 
     #[test]
-    fn refuses(rt: HostRuntime) -> Result<(), Fail> {
+    fn refuses_what_is_no_handle(rt: HostRuntime) -> Result<(), Fail> {
         let alloc = rt.alloc();
-        let handle = handle_of(FileId(4), 1);
-        assert_eq!(rt; refused(alloc, &handle, 5, true)?, None);
         // 31 bytes, and another digest: NFS3ERR_BADHANDLE before anything else.
-        assert_eq!(rt; refused(alloc, &handle[..31], 4, false)?, Some(10_001));
-        let mut changed = handle;
+        assert_eq!(rt; refused(alloc, &FOUR[..31], 4, false)?, Some(10_001));
+        let mut changed = FOUR;
         changed[31] = 0x15;
         assert_eq!(rt; refused(alloc, &changed, 4, false)?, Some(10_001));
+        Ok(())
+    }
+
+    #[test]
+    fn refuses_other_files_and_counts(rt: HostRuntime) -> Result<(), Fail> {
+        let alloc = rt.alloc();
+        assert_eq!(rt; refused(alloc, &FOUR, 5, true)?, None);
         // Another file, another file system, and a file that isn't in the tree: NFS3ERR_STALE before the count.
-        assert_eq!(rt; refused(alloc, &handle_of(FileId(5), 1), 4, true)?, Some(70));
-        assert_eq!(rt; refused(alloc, &handle_of(FileId(4), 2), 4, true)?, Some(70));
-        assert_eq!(rt; refused(alloc, &handle, 4, false)?, Some(70));
+        let five = handle_of(FileId(5), 1);
+        assert_eq!(rt; refused(alloc, &five, 4, true)?, Some(70));
+        let elsewhere = handle_of(FileId(4), 2);
+        assert_eq!(rt; refused(alloc, &elsewhere, 4, true)?, Some(70));
+        assert_eq!(rt; refused(alloc, &FOUR, 4, false)?, Some(70));
         // Another count than that of the data: NFS3ERR_INVAL.
-        assert_eq!(rt; refused(alloc, &handle, 4, true)?, Some(22));
-        assert_eq!(rt; refused(alloc, &handle, 6, true)?, Some(22));
+        assert_eq!(rt; refused(alloc, &FOUR, 4, true)?, Some(22));
+        assert_eq!(rt; refused(alloc, &FOUR, 6, true)?, Some(22));
         Ok(())
     }
 }

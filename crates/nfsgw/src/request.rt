@@ -1,5 +1,5 @@
 // What a message of a connection asks for.
-ghost use Rattle.std.specs.Prelude.{◌≡◌, ◌≤◌, Bool, true, ℕ, IfOk, length};
+ghost use Rattle.std.specs.Prelude.{◌≡◌, ◌≤◌, true, false, ℕ, IfOk, length};
 ghost use Rattle.nfsgw.specs.Acts.{Says};
 ghost use Rattle.nfsgw.specs.Text.{refused_reply, wrote_reply};
 ghost use Rattle.nfsgw.specs.Requests.{act_of, act_by, act_in, write_act, judged_act, IsFitting};
@@ -28,7 +28,7 @@ pub enum Request {
 // A request that is refused with a status of NFS.
 fn refuse(alloc: Global, xid: u32, status: u32) -> Result<Request, AllocError>
     ensures act { IfOk result (λ r. (conn : ℕ) → act_in conn r ≡ Says conn xid (refused_reply xid status)) }
-    ensures fits { (in_tree : Bool) → IfOk result (λ r. IsFitting in_tree r) }
+    ensures fits { IfOk result (λ r. IsFitting true r × IsFitting false r) }
 {
     let reply = refused_bytes(alloc, xid, status).map_err(|_| AllocError)?;
     Ok(Request::Says {

@@ -26,16 +26,18 @@ pub struct Stream {
 
 impl Model for Stream {
     ghost use Rattle.std.specs.Prelude.{◌≡◌, ℕ, List, None};
+    ghost use Rattle.rpc_record.specs.Records.{Open, front};
 
     ghost Value = { List ℕ };
 
     ghost view = { λ s. s.assembler.held };
 
-    ghost invariant = { λ s. (s.assembler.ready ≡ None) × (s.assembler.fault ≡ None) };
+    ghost invariant = { λ s. (s.assembler.ready ≡ None) × (s.assembler.fault ≡ None) × (front s.assembler.held ≡ Open) };
 }
 
 impl Stream {
     /// A stream at its start.
+    #[tactic(auto, using(rpc_record::proofs::Fronts::front_empty))]
     pub fn new(alloc: Global) -> Stream
         ensures { result ≡ [] }
     {
@@ -55,8 +57,10 @@ impl Stream {
                 Some(message) => Ok(Heard::Record { taken, message }),
                 None => Ok(Heard::More),
             },
-            Err(FrameFault::Memory) => Err(AllocError),
-            Err(_) => {
+            Err(fault) => {
+                if fault == FrameFault::Memory {
+                    return Err(AllocError);
+                }
                 self.assembler = Assembler::new(alloc);
                 Ok(Heard::Broken)
             }

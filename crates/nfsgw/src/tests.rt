@@ -61,11 +61,20 @@ fn command(
     case: &Case,
     lines: &[&str],
 ) -> Result<Outcome, AllocError> {
-    let words = words_of(alloc, texts)?;
     let mut transcript = Vec::new(alloc);
     for line in lines {
         transcript.extend_from_slice(line.as_bytes())?;
     }
+    command_on(alloc, texts, case, transcript)
+}
+
+fn command_on(
+    alloc: Global,
+    texts: &[&str],
+    case: &Case,
+    transcript: Vec<u8>,
+) -> Result<Outcome, AllocError> {
+    let words = words_of(alloc, texts)?;
     let mut failing_reads = Vec::new(alloc);
     failing_reads.push(case.failing_read)?;
     let mut failing_writes = Vec::new(alloc);
@@ -179,6 +188,234 @@ fn equal_and_unequal_overwrite(rt: HostRuntime) -> Result<(), Fail> {
 }
 
 #[test]
+fn null_call(rt: HostRuntime) -> Result<(), Fail> {
+    let outcome = run(
+        rt.alloc(),
+        &PLAIN,
+        &[
+            "bytes 1 80000028000000010000000000000002000186a3000000030000000000000000000000000000000000000000\n",
+            "end\n",
+        ],
+    )?;
+    assert_eq!(rt; outcome.status, Status::Done);
+    assert_eq!(rt;
+        outcome.written.as_slice(),
+        b"reply 1 80000018000000010000000100000000000000000000000000000000\n".as_slice()
+    );
+    assert_eq!(rt; outcome.content.as_slice(), b"".as_slice());
+    Ok(())
+}
+
+// A call in three fragments, of which the first header comes in two pieces; then, on another connection, 65 empty fragments.
+#[test]
+fn call_in_three_fragments_then_too_many(rt: HostRuntime) -> Result<(), Fail> {
+    let outcome = run(
+        rt.alloc(),
+        &PLAIN,
+        &[
+            "bytes 1 00\n",
+            "bytes 1 00000400000001\n",
+            "bytes 1 000000140000000000000002000186a30000000300000000\n",
+            "bytes 1 8000001000000000000000000000000000000000\n",
+            "bytes 2 0000000000000000000000000000000000000000000000000000000000000000000000000000000000000000000000000000000000000000000000000000000000000000000000000000000000000000000000000000000000000000000000000000000000000000000000000000000000000000000000000000000000000000000000000000000000000000000000000000000000000000000000000000000000000000000000000000000000000000000000000000000000000000000000000000000000000000000000000000000000000000000000000000000000000000000000000000000000000000000000000000000000000000000000000000000000000000\n",
+            "bytes 1 80000028000000010000000000000002000186a3000000030000000000000000000000000000000000000000\n",
+            "end\n",
+        ],
+    )?;
+    assert_eq!(rt; outcome.status, Status::Done);
+    assert_eq!(rt;
+        outcome.written.as_slice(),
+        b"reply 1 80000018000000010000000100000000000000000000000000000000\nclosed 2\nreply 1 80000018000000010000000100000000000000000000000000000000\n".as_slice()
+    );
+    assert_eq!(rt; outcome.content.as_slice(), b"".as_slice());
+    Ok(())
+}
+
+// Another RPC version, another program, another version of it, another procedure, and bytes behind the arguments.
+#[test]
+fn rpc_refusals(rt: HostRuntime) -> Result<(), Fail> {
+    let outcome = run(
+        rt.alloc(),
+        &PLAIN,
+        &[
+            "bytes 1 80000028000000010000000000000003000186a3000000030000000000000000000000000000000000000000\n",
+            "bytes 1 80000028000000020000000000000002000186a4000000030000000000000000000000000000000000000000\n",
+            "bytes 1 80000028000000030000000000000002000186a3000000020000000000000000000000000000000000000000\n",
+            "bytes 1 80000028000000040000000000000002000186a3000000030000001600000000000000000000000000000000\n",
+            "bytes 1 80000068000000050000000000000002000186a3000000030000000700000000000000000000000000000000000000200000000000000004000000000000000121e0f2975a84e78cec58787af28bde1400000000000000000000000100000000000000016100000000000000\n",
+            "end\n",
+        ],
+    )?;
+    assert_eq!(rt; outcome.status, Status::Done);
+    assert_eq!(rt;
+        outcome.written.as_slice(),
+        b"reply 1 80000018000000010000000100000001000000000000000200000002\nreply 1 80000018000000020000000100000000000000000000000000000001\nreply 1 800000200000000300000001000000000000000000000000000000020000000300000003\nreply 1 80000018000000040000000100000000000000000000000000000003\nreply 1 80000018000000050000000100000000000000000000000000000004\n".as_slice()
+    );
+    assert_eq!(rt; outcome.content.as_slice(), b"".as_slice());
+    Ok(())
+}
+
+// No bytes, a byte more than a record may have, a header alone, a call cut short, and a reply, each on its own connection.
+#[test]
+fn hostile_messages(rt: HostRuntime) -> Result<(), Fail> {
+    let outcome = run(
+        rt.alloc(),
+        &PLAIN,
+        &[
+            "bytes 1 80000000\n",
+            "bytes 2 80101001\n",
+            "bytes 3 80101000\n",
+            "bytes 4 8000000c000000070000000000000002\n",
+            "bytes 5 8000000c000000070000000000000003\n",
+            "bytes 6 80000020000000080000000000000002000186a300000003000000000000000000000191\n",
+            "bytes 7 800000080000000900000001\n",
+            "end\n",
+        ],
+    )?;
+    assert_eq!(rt; outcome.status, Status::Done);
+    assert_eq!(rt;
+        outcome.written.as_slice(),
+        b"closed 1\nclosed 2\nclosed 4\nreply 5 80000018000000070000000100000001000000000000000200000002\nreply 6 800000140000000800000001000000010000000100000001\nclosed 7\n".as_slice()
+    );
+    assert_eq!(rt; outcome.content.as_slice(), b"".as_slice());
+    Ok(())
+}
+
+// A handle with another digest, and the handle of the file, which is not there: NFS3ERR_BADHANDLE and NFS3ERR_STALE come before
+// the count, which is wrong in both.
+#[test]
+fn writes_without_the_file(rt: HostRuntime) -> Result<(), Fail> {
+    let outcome = run(
+        rt.alloc(),
+        &PLAIN,
+        &[
+            "bytes 1 80000068000000010000000000000002000186a3000000030000000700000000000000000000000000000000000000200000000000000004000000000000000121e0f2975a84e78cec58787af28bde1500000000000000000000000400000000000000056162636465000000\n",
+            "bytes 1 80000068000000020000000000000002000186a3000000030000000700000000000000000000000000000000000000200000000000000004000000000000000121e0f2975a84e78cec58787af28bde1400000000000000000000000400000000000000056162636465000000\n",
+            "end\n",
+        ],
+    )?;
+    assert_eq!(rt; outcome.status, Status::Done);
+    assert_eq!(rt;
+        outcome.written.as_slice(),
+        b"reply 1 80000024000000010000000100000000000000000000000000000000000027110000000000000000\nreply 1 80000024000000020000000100000000000000000000000000000000000000460000000000000000\n".as_slice()
+    );
+    assert_eq!(rt; outcome.content.as_slice(), b"".as_slice());
+    Ok(())
+}
+
+// A handle with another digest, a count of 4 for five bytes whose end is at 2^63, five bytes that end there, and no bytes.
+#[test]
+fn writes_answered_at_once(rt: HostRuntime) -> Result<(), Fail> {
+    let outcome = run(
+        rt.alloc(),
+        &PLAIN,
+        &[
+            "file data\n",
+            "bytes 1 80000068000000010000000000000002000186a3000000030000000700000000000000000000000000000000000000200000000000000004000000000000000121e0f2975a84e78cec58787af28bde1500000000000000000000000400000000000000056162636465000000\n",
+            "bytes 1 80000068000000020000000000000002000186a3000000030000000700000000000000000000000000000000000000200000000000000004000000000000000121e0f2975a84e78cec58787af28bde147ffffffffffffffb0000000400000000000000056162636465000000\n",
+            "bytes 1 80000068000000030000000000000002000186a3000000030000000700000000000000000000000000000000000000200000000000000004000000000000000121e0f2975a84e78cec58787af28bde147ffffffffffffffb0000000500000000000000056162636465000000\n",
+            "bytes 1 80000060000000040000000000000002000186a3000000030000000700000000000000000000000000000000000000200000000000000004000000000000000121e0f2975a84e78cec58787af28bde140000000000000000000000000000000000000000\n",
+            "end\n",
+        ],
+    )?;
+    assert_eq!(rt; outcome.status, Status::Done);
+    assert_eq!(rt;
+        outcome.written.as_slice(),
+        b"reply 1 80000024000000010000000100000000000000000000000000000000000027110000000000000000\nreply 1 80000024000000020000000100000000000000000000000000000000000000160000000000000000\nreply 1 800000240000000300000001000000000000000000000000000000000000001b0000000000000000\nreply 1 8000003400000004000000010000000000000000000000000000000000000000000000000000000000000000000000000000000000000001\n".as_slice()
+    );
+    assert_eq!(rt; outcome.content.as_slice(), b"".as_slice());
+    Ok(())
+}
+
+// Both calls have the xid 7, and both are answered at turns.
+#[test]
+fn replies_go_to_the_connection_that_asked(rt: HostRuntime) -> Result<(), Fail> {
+    let outcome = run(
+        rt.alloc(),
+        &PLAIN,
+        &[
+            "file data\n",
+            "bytes 2 80000068000000070000000000000002000186a3000000030000000700000000000000000000000000000000000000200000000000000004000000000000000121e0f2975a84e78cec58787af28bde1400000000000000000000000500000000000000056162636465000000\n",
+            "bytes 1 80000064000000070000000000000002000186a3000000030000000700000000000000000000000000000000000000200000000000000004000000000000000121e0f2975a84e78cec58787af28bde14000000000000000500000003000000000000000366676800\n",
+            "turn 4\n",
+            "turn 4\n",
+            "end\n",
+        ],
+    )?;
+    assert_eq!(rt; outcome.status, Status::Done);
+    assert_eq!(rt;
+        outcome.written.as_slice(),
+        b"reply 2 8000003400000007000000010000000000000000000000000000000000000000000000000000000000000005000000000000000000000001\nreply 1 8000003400000007000000010000000000000000000000000000000000000000000000000000000000000003000000000000000000000001\ncontext 4 from 0\nwrite 1 0 5 put -\nwrite 2 5 3 put -\nended 4 end reach 8 stored 8 synced 0\n".as_slice()
+    );
+    assert_eq!(rt; outcome.content.as_slice(), b"abcdefgh".as_slice());
+    Ok(())
+}
+
+// Connection 2 ends while its WRITE is held: what it sends then is passed over, and the WRITE is done without a reply.
+#[test]
+fn nothing_of_a_closed_connection_is_answered(rt: HostRuntime) -> Result<(), Fail> {
+    let outcome = run(
+        rt.alloc(),
+        &PLAIN,
+        &[
+            "file data\n",
+            "bytes 2 80000068000000010000000000000002000186a3000000030000000700000000000000000000000000000000000000200000000000000004000000000000000121e0f2975a84e78cec58787af28bde1400000000000000000000000500000000000000056162636465000000\n",
+            "bytes 2 800000080000000900000001\n",
+            "bytes 2 80000028000000020000000000000002000186a3000000030000000000000000000000000000000000000000\n",
+            "bytes 1 80000028000000030000000000000002000186a3000000030000000000000000000000000000000000000000\n",
+            "turn 4\n",
+            "end\n",
+        ],
+    )?;
+    assert_eq!(rt; outcome.status, Status::Done);
+    assert_eq!(rt;
+        outcome.written.as_slice(),
+        b"closed 2\nreply 1 80000018000000030000000100000000000000000000000000000000\ncontext 4 from 0\nwrite 1 0 5 put -\nended 4 end reach 5 stored 5 synced 0\n".as_slice()
+    );
+    assert_eq!(rt; outcome.content.as_slice(), b"abcde".as_slice());
+    Ok(())
+}
+
+// The call behind it in its piece is not served.
+#[test]
+fn a_reply_ends_its_connection(rt: HostRuntime) -> Result<(), Fail> {
+    let outcome = run(
+        rt.alloc(),
+        &PLAIN,
+        &[
+            "bytes 1 80000008000000090000000180000028000000020000000000000002000186a3000000030000000000000000000000000000000000000000\n",
+            "end\n",
+        ],
+    )?;
+    assert_eq!(rt; outcome.status, Status::Done);
+    assert_eq!(rt; outcome.written.as_slice(), b"closed 1\n".as_slice());
+    assert_eq!(rt; outcome.content.as_slice(), b"".as_slice());
+    Ok(())
+}
+
+// The first WRITE with its record in pieces of one byte.
+fn byte_by_byte(alloc: Global) -> Result<Vec<u8>, AllocError> {
+    let mut transcript = Vec::from_slice(alloc, FILE.as_bytes())?;
+    for byte in FIRST.as_bytes()[8..FIRST.len() - 1].chunks(2) {
+        transcript.extend_from_slice(b"bytes 1 ")?;
+        transcript.extend_from_slice(byte)?;
+        transcript.push(b'\n')?;
+    }
+    transcript.extend_from_slice(b"turn 4\nend\n")?;
+    Ok(transcript)
+}
+
+#[test]
+fn a_write_byte_by_byte(rt: HostRuntime) -> Result<(), Fail> {
+    let alloc = rt.alloc();
+    let outcome = command_on(alloc, &["replay"], &PLAIN, byte_by_byte(alloc)?)?;
+    assert_eq!(rt; outcome.status, Status::Done);
+    assert_eq!(rt; outcome.written.as_slice(), REPLY);
+    assert_eq!(rt; outcome.content.as_slice(), b"abcde".as_slice());
+    Ok(())
+}
+
+#[test]
 fn failed_append_keeps_three_bytes(rt: HostRuntime) -> Result<(), Fail> {
     let case = Case {
         failing_call: 3,
@@ -262,6 +499,9 @@ fn the_first_bad_line_is_named(rt: HostRuntime) -> Result<(), Fail> {
     let alloc = rt.alloc();
     let empty = run(alloc, &PLAIN, &[])?;
     assert_eq!(rt; empty.status, Status::BadLine(1));
+    let zero = run(alloc, &PLAIN, &["turn 04\n"])?;
+    assert_eq!(rt; zero.status, Status::BadLine(1));
+    assert_eq!(rt; zero.written.len(), 0);
     let late = run(alloc, &PLAIN, &[FILE, FIRST, "turn 04\n", "end\n"])?;
     assert_eq!(rt; late.status, Status::BadLine(3));
     assert_eq!(rt;

@@ -13,7 +13,7 @@ ghost use Rattle.nfsgw.specs.Outside.{body_id, body_at, faults_at, Safe, Home, I
 use crate::answer::{IO, refused};
 use crate::call::WriteCall;
 use crate::open_file::{OpenFile, Verdict};
-use crate::reply::{closed_text, line, reply_text};
+use crate::reply::{closed_text, reply_text, said_text};
 use append_store::{AppendFile, Cluster, CreateFault};
 use gw_model::ObjectId;
 use std::alloc::{AllocError, Global};
@@ -175,12 +175,8 @@ impl World {
             return Err(AllocError);
         };
         match self.desk.send(Answer { ticket, body }) {
-            Sent::Reply {
-                conn,
-                body: Body::Text(reply),
-                ..
-            } => line(alloc, conn, &reply),
-            _ => Ok(String::new(alloc)),
+            Sent::Reply { conn, xid: _, body } => said_text(alloc, conn, body),
+            Sent::Cancelled => Ok(String::new(alloc)),
         }
     }
 

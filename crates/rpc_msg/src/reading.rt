@@ -10,7 +10,7 @@ use bytes::Bytes;
 use std::alloc::Global;
 
 /// Reads a message as a call. The first fault in the order of the bytes decides; want of memory comes
-/// only where the message is a call.
+/// only where the message is a call. The arguments share the message's memory.
 pub fn read_call(alloc: Global, message: Bytes) -> Result<Call, CallFault>
     ensures ok { IfOk result (λ call. call_of message ≡ Ok (call_view call)) }
     ensures whole { IfOk result (λ call. call.whole ≡ message) }
@@ -25,10 +25,13 @@ pub fn read_call(alloc: Global, message: Bytes) -> Result<Call, CallFault>
     };
     let xid = parts.xid;
     let caller = parts.sender.caller;
+    // The arguments are the end of the message.
+    let end = message.len();
+    let place = end - parts.args.len();
     let Ok(host) = Bytes::copy_from_slice(alloc, parts.sender.host) else {
         return Err(CallFault::Memory { xid });
     };
-    let Ok(args) = Bytes::copy_from_slice(alloc, parts.args) else {
+    let Ok(args) = message.slice(place..end) else {
         return Err(CallFault::Memory { xid });
     };
     Ok(Call {

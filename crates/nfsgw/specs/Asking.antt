@@ -1,10 +1,9 @@
 -- What the reading of a message answers: what it asks for, or want of memory.
-use Rattle.std.specs.Prelude.{◌≡◌, ℕ, ◌≤◌, length, Result, Ok, Err}
+use Rattle.std.specs.Prelude.{◌≡◌, ℕ, Result, Ok, Err}
 use Rattle.rpc_msg.specs.declared.fault.CallFault.{CallFault}
 use Rattle.rpc_msg.specs.declared.fault.CallFault.TheVariants.{NotCall, RpcMismatch, BadCred, RejectedCred, Short, Memory}
 use Rattle.nfsgw.specs.declared.message.Refused.{Refused}
 use Rattle.nfsgw.specs.declared.message.Asked.{Asked}
-use Rattle.nfsgw.specs.declared.message.Asked.TheVariants.{Ends, Says, Writes}
 
 -- the request with this xid asks for this, or memory was wanting for it
 abbrev pub Gives : Result Asked Refused → ℕ → Asked → Type 0
@@ -19,9 +18,3 @@ HasXid (RpcMismatch xid) n = n ≡ xid
 HasXid (BadCred xid) n = n ≡ xid
 HasXid (RejectedCred xid) n = n ≡ xid
 HasXid (Memory xid) n = n ≡ xid
-
--- the most data that a WRITE may have
-abbrev pub IsFew : Asked → Type 0
-IsFew Ends = Unit {0}
-IsFew (Says xid reply) = Unit {0}
-IsFew (Writes xid args) = length args.data ≤ 1048576

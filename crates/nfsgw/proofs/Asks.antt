@@ -1,0 +1,109 @@
+-- Worked messages of RFC 5531 section 9: what each asks for, computed by the definitions.
+use Rattle.std.proofs.Common.{◌≡◌, ℕ, Bool, true, false, List, [], ◌∷◌, ◌++◌, refl, Option, Some, None}
+use Rattle.std.specs.Prelude.{codes}
+use Rattle.md5.specs.Md5.{md5, digest_bytes, hash_after, compress, rounds, block_words}
+use Rattle.handles.specs.Handle.{handle_text, ids_text}
+use Rattle.xdr.specs.Items.{word, long}
+use Rattle.xdr.specs.Reading.{u32_at, u64_at, opaque_at, finish_at}
+use Rattle.rpc_msg.specs.Calls.{part_at, auth_at, sender_of, system_sender, groups_at, words_at, body_of, call_of}
+use Rattle.rpc_msg.specs.Replies.{accepted, mismatched, denied}
+use Rattle.nfs_wire.specs.Arguments.{stable_at, write_at, nfs_arms, mount_arms, args_of}
+use Rattle.nfsgw.specs.declared.message.WriteArgs.{WriteArgs}
+use Rattle.nfsgw.specs.declared.message.Asked.{Asked}
+use Rattle.nfsgw.specs.declared.message.Asked.TheVariants.{Ends, Says, Writes}
+use Rattle.nfsgw.specs.Messages.{asked_of, refusal_of}
+
+abbrev words : List ℕ → List ℕ
+words [] = []
+words (w ∷ ws) = word w ++ words ws
+
+abbrev Asks : List ℕ → Asked → Type 0
+unfolding word u32_at u64_at opaque_at finish_at part_at auth_at sender_of system_sender groups_at words_at body_of call_of accepted mismatched denied stable_at write_at nfs_arms mount_arms args_of
+Asks message asked = asked_of (words message) ≡ asked
+
+abbrev Says_words : ℕ → List ℕ → Asked
+unfolding word
+Says_words xid ws = Says xid (words ws)
+
+-- NULL of NFS, and of MOUNT
+null_call : Asks (1 ∷ 0 ∷ 2 ∷ 100003 ∷ 3 ∷ 0 ∷ 0 ∷ 0 ∷ 0 ∷ 0 ∷ []) (Says_words 1 (1 ∷ 1 ∷ 0 ∷ 0 ∷ 0 ∷ 0 ∷ []))
+unfolding Asks Says_words
+null_call = refl
+
+mount_null : Asks (1 ∷ 0 ∷ 2 ∷ 100005 ∷ 3 ∷ 0 ∷ 0 ∷ 0 ∷ 0 ∷ 0 ∷ []) (Says_words 1 (1 ∷ 1 ∷ 0 ∷ 0 ∷ 0 ∷ 0 ∷ []))
+unfolding Asks Says_words
+mount_null = refl
+
+-- version 3 of the protocol, program 100004, version 2 of NFS, procedure 22
+rpc_mismatch : Asks (1 ∷ 0 ∷ 3 ∷ 100003 ∷ 3 ∷ 0 ∷ 0 ∷ 0 ∷ 0 ∷ 0 ∷ []) (Says_words 1 (1 ∷ 1 ∷ 1 ∷ 0 ∷ 2 ∷ 2 ∷ []))
+unfolding Asks Says_words
+rpc_mismatch = refl
+
+prog_unavail : Asks (2 ∷ 0 ∷ 2 ∷ 100004 ∷ 3 ∷ 0 ∷ 0 ∷ 0 ∷ 0 ∷ 0 ∷ []) (Says_words 2 (2 ∷ 1 ∷ 0 ∷ 0 ∷ 0 ∷ 1 ∷ []))
+unfolding Asks Says_words
+prog_unavail = refl
+
+prog_mismatch : Asks (3 ∷ 0 ∷ 2 ∷ 100003 ∷ 2 ∷ 0 ∷ 0 ∷ 0 ∷ 0 ∷ 0 ∷ []) (Says_words 3 (3 ∷ 1 ∷ 0 ∷ 0 ∷ 0 ∷ 2 ∷ 3 ∷ 3 ∷ []))
+unfolding Asks Says_words
+prog_mismatch = refl
+
+proc_unavail : Asks (4 ∷ 0 ∷ 2 ∷ 100003 ∷ 3 ∷ 22 ∷ 0 ∷ 0 ∷ 0 ∷ 0 ∷ []) (Says_words 4 (4 ∷ 1 ∷ 0 ∷ 0 ∷ 0 ∷ 3 ∷ []))
+unfolding Asks Says_words
+proc_unavail = refl
+
+-- a WRITE of `a` at offset 1 to file 4, and with a word behind it
+abbrev write_a : List ℕ → List ℕ
+write_a rest = 5 ∷ 0 ∷ 2 ∷ 100003 ∷ 3 ∷ 7 ∷ 0 ∷ 0 ∷ 0 ∷ 0 ∷ 32 ∷ 0 ∷ 4 ∷ 0 ∷ 1 ∷ 0x21e0f297 ∷ 0x5a84e78c ∷ 0xec58787a ∷ 0xf28bde14 ∷ 0 ∷ 1 ∷ 1 ∷ 0 ∷ 1 ∷ 0x61000000 ∷ rest
+
+abbrev handle_four : List ℕ
+unfolding word
+handle_four = words (0 ∷ 4 ∷ 0 ∷ 1 ∷ 0x21e0f297 ∷ 0x5a84e78c ∷ 0xec58787a ∷ 0xf28bde14 ∷ [])
+
+abbrev args_a : ℕ → WriteArgs
+args_a count = record { handle = handle_four; offset = 1; count = count; «data» = codes "a" }
+
+write_call : Asks (write_a []) (Writes 5 (args_a 1))
+unfolding Asks
+write_call = refl
+
+garbage_args : Asks (write_a (0 ∷ [])) (Says_words 5 (5 ∷ 1 ∷ 0 ∷ 0 ∷ 0 ∷ 4 ∷ []))
+unfolding Asks Says_words
+garbage_args = refl
+
+-- a credential of another flavor, and one of 401 bytes
+rejected : Asks (6 ∷ 0 ∷ 2 ∷ 100003 ∷ 3 ∷ 0 ∷ 6 ∷ 0 ∷ 0 ∷ 0 ∷ []) (Says_words 6 (6 ∷ 1 ∷ 1 ∷ 1 ∷ 2 ∷ []))
+unfolding Asks Says_words
+rejected = refl
+
+bad_credential : Asks (8 ∷ 0 ∷ 2 ∷ 100003 ∷ 3 ∷ 0 ∷ 0 ∷ 401 ∷ []) (Says_words 8 (8 ∷ 1 ∷ 1 ∷ 1 ∷ 1 ∷ []))
+unfolding Asks Says_words
+bad_credential = refl
+
+-- a reply, and a call that breaks off
+not_call : Asks (9 ∷ 1 ∷ []) Ends
+unfolding Asks
+not_call = refl
+
+short : Asks (7 ∷ 0 ∷ 2 ∷ []) Ends
+unfolding Asks
+short = refl
+
+abbrev Refuses : Bool → WriteArgs → Option ℕ → Type 0
+unfolding md5 digest_bytes hash_after compress rounds block_words word long handle_text ids_text
+Refuses in_tree q status = refusal_of in_tree q ≡ status
+
+taken : Refuses true (args_a 1) None
+unfolding Refuses
+taken = refl
+
+not_in_tree : Refuses false (args_a 1) (Some 70)
+unfolding Refuses
+not_in_tree = refl
+
+other_count : Refuses true (args_a 2) (Some 22)
+unfolding Refuses
+other_count = refl
+
+no_handle : Refuses true (record (args_a 1) { handle = codes "a" }) (Some 10001)
+unfolding Refuses
+no_handle = refl
