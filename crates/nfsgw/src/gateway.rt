@@ -59,11 +59,11 @@ fn serve_request<C: Cluster>(
     requires stands { Stands C.File.tells in_tree (C.at cluster.old body_id) (option_map (λ b. C.File.mark b) body.old) }
     requires fits { IsFitting in_tree request }
     ensures ok { IfOk result (λ s. IsServed C.File.tells s (act_in conn request) world.old world.new
-            (body_at (C.at cluster.old body_id) (option_map (λ b. C.File.content b) body.old)) (body_at (C.at cluster.new body_id) (option_map (λ b. C.File.content b) body.new))
-            (faults_at (C.count cluster.old) (option_map (λ b. C.File.count b) body.old)) (faults_at (C.count cluster.new) (option_map (λ b. C.File.count b) body.new))) }
+        (body_at (C.at cluster.old body_id) (option_map (λ b. C.File.content b) body.old)) (body_at (C.at cluster.new body_id) (option_map (λ b. C.File.content b) body.new))
+        (faults_at (C.count cluster.old) (option_map (λ b. C.File.count b) body.old)) (faults_at (C.count cluster.new) (option_map (λ b. C.File.count b) body.new))) }
     ensures err { OnErr result (Untouched C.File.tells
-            (body_at (C.at cluster.old body_id) (option_map (λ b. C.File.content b) body.old)) (body_at (C.at cluster.new body_id) (option_map (λ b. C.File.content b) body.new))
-            (faults_at (C.count cluster.old) (option_map (λ b. C.File.count b) body.old)) (faults_at (C.count cluster.new) (option_map (λ b. C.File.count b) body.new))) }
+        (body_at (C.at cluster.old body_id) (option_map (λ b. C.File.content b) body.old)) (body_at (C.at cluster.new body_id) (option_map (λ b. C.File.content b) body.new))
+        (faults_at (C.count cluster.old) (option_map (λ b. C.File.count b) body.old)) (faults_at (C.count cluster.new) (option_map (λ b. C.File.count b) body.new))) }
     ensures both_after { OnOk result (is_some body.new ≡ is_some world.new.opened) }
     ensures others { C.File.tells → (q : ObjectId) → q ≢ body_id → C.at cluster.new q ≡ C.at cluster.old q }
     ensures stands_after { Stands C.File.tells in_tree (C.at cluster.new body_id) (option_map (λ b. C.File.mark b) body.new) }
@@ -97,11 +97,11 @@ fn serve_message<C: Cluster>(
     requires both { is_some body.old ≡ is_some world.old.opened }
     requires stands { Stands C.File.tells in_tree (C.at cluster.old body_id) (option_map (λ b. C.File.mark b) body.old) }
     ensures ok { IfOk result (λ s. IsServed C.File.tells s (act_of in_tree conn message) world.old world.new
-            (body_at (C.at cluster.old body_id) (option_map (λ b. C.File.content b) body.old)) (body_at (C.at cluster.new body_id) (option_map (λ b. C.File.content b) body.new))
-            (faults_at (C.count cluster.old) (option_map (λ b. C.File.count b) body.old)) (faults_at (C.count cluster.new) (option_map (λ b. C.File.count b) body.new))) }
+        (body_at (C.at cluster.old body_id) (option_map (λ b. C.File.content b) body.old)) (body_at (C.at cluster.new body_id) (option_map (λ b. C.File.content b) body.new))
+        (faults_at (C.count cluster.old) (option_map (λ b. C.File.count b) body.old)) (faults_at (C.count cluster.new) (option_map (λ b. C.File.count b) body.new))) }
     ensures err { OnErr result (Untouched C.File.tells
-            (body_at (C.at cluster.old body_id) (option_map (λ b. C.File.content b) body.old)) (body_at (C.at cluster.new body_id) (option_map (λ b. C.File.content b) body.new))
-            (faults_at (C.count cluster.old) (option_map (λ b. C.File.count b) body.old)) (faults_at (C.count cluster.new) (option_map (λ b. C.File.count b) body.new))) }
+        (body_at (C.at cluster.old body_id) (option_map (λ b. C.File.content b) body.old)) (body_at (C.at cluster.new body_id) (option_map (λ b. C.File.content b) body.new))
+        (faults_at (C.count cluster.old) (option_map (λ b. C.File.count b) body.old)) (faults_at (C.count cluster.new) (option_map (λ b. C.File.count b) body.new))) }
     ensures both_after { OnOk result (is_some body.new ≡ is_some world.new.opened) }
     ensures others { C.File.tells → (q : ObjectId) → q ≢ body_id → C.at cluster.new q ≡ C.at cluster.old q }
     ensures stands_after { Stands C.File.tells in_tree (C.at cluster.new body_id) (option_map (λ b. C.File.mark b) body.new) }
@@ -132,11 +132,11 @@ fn serve_piece<C: Cluster>(
     requires both { is_some body.old ≡ is_some world.old.opened }
     requires stands { Stands C.File.tells in_tree (C.at cluster.old body_id) (option_map (λ b. C.File.mark b) body.old) }
     ensures ok { IfOk result (λ s. IsPieceServed C.File.tells s (heard_of in_tree conn (stream.old ++ piece.now)) stream.new world.old world.new
-            (body_at (C.at cluster.old body_id) (option_map (λ b. C.File.content b) body.old)) (body_at (C.at cluster.new body_id) (option_map (λ b. C.File.content b) body.new))
-            (faults_at (C.count cluster.old) (option_map (λ b. C.File.count b) body.old)) (faults_at (C.count cluster.new) (option_map (λ b. C.File.count b) body.new))) }
+        (body_at (C.at cluster.old body_id) (option_map (λ b. C.File.content b) body.old)) (body_at (C.at cluster.new body_id) (option_map (λ b. C.File.content b) body.new))
+        (faults_at (C.count cluster.old) (option_map (λ b. C.File.count b) body.old)) (faults_at (C.count cluster.new) (option_map (λ b. C.File.count b) body.new))) }
     ensures err { OnErr result (Cuts C.File.tells (heard_of in_tree conn (stream.old ++ piece.now)).acts world.old
-            (body_at (C.at cluster.old body_id) (option_map (λ b. C.File.content b) body.old)) (body_at (C.at cluster.new body_id) (option_map (λ b. C.File.content b) body.new))
-            (faults_at (C.count cluster.old) (option_map (λ b. C.File.count b) body.old)) (faults_at (C.count cluster.new) (option_map (λ b. C.File.count b) body.new))) }
+        (body_at (C.at cluster.old body_id) (option_map (λ b. C.File.content b) body.old)) (body_at (C.at cluster.new body_id) (option_map (λ b. C.File.content b) body.new))
+        (faults_at (C.count cluster.old) (option_map (λ b. C.File.count b) body.old)) (faults_at (C.count cluster.new) (option_map (λ b. C.File.count b) body.new))) }
     ensures both_after { OnOk result (is_some body.new ≡ is_some world.new.opened) }
     ensures others { C.File.tells → (q : ObjectId) → q ≢ body_id → C.at cluster.new q ≡ C.at cluster.old q }
     ensures stands_after { Stands C.File.tells in_tree (C.at cluster.new body_id) (option_map (λ b. C.File.mark b) body.new) }
@@ -200,7 +200,14 @@ impl Gateway {
             return Ok(String::new(alloc));
         };
         let served = serve_piece(
-            alloc, self.in_tree, conn, &mut stream, piece, &mut self.world, cluster, body,
+            alloc,
+            self.in_tree,
+            conn,
+            &mut stream,
+            piece,
+            &mut self.world,
+            cluster,
+            body,
         )?;
         give_link(&mut self.links, conn, link_after(served.ended, stream));
         Ok(served.text)

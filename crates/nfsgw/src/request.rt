@@ -60,7 +60,12 @@ fn write_request(alloc: Global, xid: u32, args: WriteArgs) -> Result<Request, Al
     }))
 }
 
-fn judged_request(alloc: Global, in_tree: bool, xid: u32, args: WriteArgs) -> Result<Request, AllocError>
+fn judged_request(
+    alloc: Global,
+    in_tree: bool,
+    xid: u32,
+    args: WriteArgs,
+) -> Result<Request, AllocError>
     requires few { length args.data ≤ 1048576 }
     ensures act { IfOk result (λ r. (conn : ℕ) → act_in conn r ≡ act_by in_tree conn (Writes xid args)) }
     ensures fits { IfOk result (λ r. IsFitting in_tree r) }

@@ -10,9 +10,9 @@ ghost use Rattle.nfsgw.specs.Steps.{idle, end_history};
 ghost use Rattle.nfsgw.specs.Outside.{body_id, body_at, faults_at, Safe, Stands, IsReady, GivesBack};
 ghost use Rattle.nfsgw.specs.Progress.{Turns, Ends, IsEventTurn, IsWritten, status_by};
 
+use crate::gateway::Gateway;
 use crate::grammar::{Event, Line, line_of};
 use crate::status::Status;
-use crate::gateway::Gateway;
 use crate::world::{BODY, Stepped};
 use append_store::Cluster;
 use gw_outside::{Sink, Source};
