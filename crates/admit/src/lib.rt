@@ -21,3 +21,6 @@ pub use admit::Admit;
 pub use laws::request_laws;
 pub use phase::{Cause, HistoryEntry, Phase};
 pub use request::{CommitReq, Failed, News, Pumped, ReadReq, Verdict, WriteReq};
+
+#[cfg(test)]
+mod tests;
