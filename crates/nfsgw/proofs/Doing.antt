@@ -1,12 +1,12 @@
 -- Acts that are done one after another.
-use Rattle.std.proofs.Common.{◌≡◌, ℕ, ◌+◌, ◌≤◌, Bool, true, false, List, [], ◌∷◌, ◌++◌, refl, sym, ◌∙◌, ap, subst, append_assoc, append-nil, arith}
+use Rattle.std.proofs.Common.{◌≡◌, ℕ, ◌≤◌, Bool, true, false, List, [], ◌∷◌, ◌++◌, refl, sym, ◌∙◌, ap, append_assoc, append-nil, arith}
 use Rattle.gw_model.specs.Ahead.{Called}
 use Rattle.transcript.specs.Writing.{IsPrefix}
 use Rattle.nfsgw.specs.Acts.{Act}
-use Rattle.nfsgw.specs.Headline.{Fails, ahead_of}
+use Rattle.nfsgw.specs.Headline.{ahead_of}
 use Rattle.nfsgw.specs.Steps.{State, Step, Gone, gone_of, gone_then, onto, step_of}
 use Rattle.nfsgw.specs.Answers.{Untouched}
-use Rattle.nfsgw.specs.Outside.{IsStep, IsCut, IsQuiet, Does, Stops, Cuts, stopped_at}
+use Rattle.nfsgw.specs.Outside.{IsStep, IsCut, IsQuiet, Does, Stops, Cuts}
 use Rattle.nfsgw.proofs.Traffic.{Fails-trans}
 
 pub onto-onto : (t u p q : List ℕ) (gone : Gone) → onto t p (onto u q gone) ≡ onto (t ++ u) (p ++ q) gone

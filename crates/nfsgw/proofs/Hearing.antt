@@ -1,5 +1,5 @@
 -- What the records of a piece ask for, one after another.
-use Rattle.std.proofs.Common.{◌≡◌, ℕ, ◌+◌, ◌<◌, ◌≤◌, Bool, true, false, List, [], ◌∷◌, ◌++◌, length, drop, refl, sym, ◌∙◌, ap, subst, append_assoc, append-nil, length-append, string_bytes, arith}
+use Rattle.std.proofs.Common.{◌≡◌, ℕ, ◌+◌, ◌<◌, ◌≤◌, Bool, true, false, List, [], ◌∷◌, ◌++◌, length, drop, refl, sym, ◌∙◌, ap, append_assoc, append-nil, length-append, string_bytes, arith}
 use Rattle.rpc_record.specs.declared.fault.FrameFault.{FrameFault}
 use Rattle.rpc_record.specs.Records.{Records, Open, Fault, Whole, front, records}
 use Rattle.rpc_record.proofs.Fronts.{whole_shrinks}
@@ -8,7 +8,7 @@ use Rattle.nfsgw.specs.Acts.{Act, Ends, act_ends}
 use Rattle.nfsgw.specs.Requests.{act_of}
 use Rattle.nfsgw.specs.Links.{Heard, heard, heard_by, heard_then, heard_of}
 use Rattle.nfsgw.specs.Steps.{State}
-use Rattle.nfsgw.specs.Outside.{IsStep, IsQuiet, Does, Cuts, IsServed, IsPieceServed}
+use Rattle.nfsgw.specs.Outside.{IsQuiet, Does, Cuts, IsServed, IsPieceServed}
 use Rattle.nfsgw.specs.declared.link.Link.TheVariants as link
 use Rattle.nfsgw.specs.declared.gateway.Served.{Served}
 use Rattle.nfsgw.proofs.Doing.{quiet_step, does_none, does_more, does_cut}

@@ -1,14 +1,12 @@
 -- The connections' map: what is set at a connection.
-use Rattle.nfsgw.specs.Acts.{Act}
-use Rattle.nfsgw.specs.Links.{Heard, Front, heard_on, heard_of, link_at, link_of, opened_by, piece_on}
-use Rattle.nfsgw.specs.Steps.{Serving, State}
+use Rattle.nfsgw.specs.Links.{Front, heard_of, link_at, link_of, opened_by, piece_on}
+use Rattle.nfsgw.specs.Steps.{Serving}
 use Rattle.nfsgw.specs.Outside.{Cuts, IsPieceServed, IsReceived, link_after}
 use Rattle.nfsgw.specs.declared.link.Link.{Link}
 use Rattle.nfsgw.specs.declared.link.Link.TheVariants.{Open, Closed}
 use Rattle.nfsgw.specs.declared.gateway.Served.{Served}
 use Rattle.nfsgw.proofs.Doing.{does_none}
-use Rattle.std.proofs.Common.{string_bytes, ◌++◌, subst, ◌≡◌, ◌≢◌, ℕ, Bool, true, false, cond, Option, Some, None, List, [], ◌∷◌, refl, sym, ◌∙◌, ap, arith}
-use Rattle.std.specs.Prelude.{◌==◌}
+use Rattle.std.proofs.Common.{string_bytes, ◌++◌, ◌≡◌, ℕ, Bool, true, false, cond, Option, Some, None, List, [], ◌∷◌, refl, sym, ◌∙◌, ap, arith}
 use Rattle.std.specs.declared.cmp.Ordering.{Ordering}
 use Rattle.std.specs.declared.cmp.Ordering.TheVariants.{Less, Equal, Greater}
 use Rattle.std.specs.Ordering.{nat_cmp, is_eq, match_ordering}

@@ -1,6 +1,5 @@
 -- The front of a reply.
 use Rattle.std.proofs.Common.{◌≡◌, ℕ, refl}
-use Rattle.std.specs.Int.{to_be_bytes}
 use Rattle.xdr.specs.Items.{word, fixed_text}
 use Rattle.rpc_msg.specs.Replies.{accepted}
 

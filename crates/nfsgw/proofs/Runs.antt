@@ -1,11 +1,9 @@
 -- From one line to the next, and to the last.
-use Rattle.std.proofs.Common.{◌≡◌, ◌≢◌, ℕ, ◌+◌, ◌<◌, Bool, true, false, List, [], ◌∷◌, ◌++◌, length, Some, None, refl, sym, ◌∙◌, ap, subst, append_assoc, append-nil, arith}
+use Rattle.std.proofs.Common.{◌≡◌, ◌≢◌, ℕ, ◌+◌, ◌<◌, Bool, false, List, [], ◌++◌, length, Some, None, refl, sym, ◌∙◌, ap, subst, append_assoc, append-nil, arith}
 use Rattle.std.specs.declared.option.Option.{Option}
 use Rattle.std.specs.Io.KnownBytes.{Consumes}
 use Rattle.std.proofs.KnownBytes.{Appends-nil, Appends-trans, Consumes-trans, Consumes-nil}
-use Rattle.gw_model.specs.Ahead.{Called}
 use Rattle.transcript.specs.Script.{Script, Stop, AtEnd, AtBad, AtOpen, script_from, line_then, then_script, stops, max_lines, TakesLine, IsPart, BeginsTooLong}
-use Rattle.transcript.specs.Writing.{IsPrefix}
 use Rattle.transcript.proofs.ScriptLaws.{script_takes, script_long, script_late, script_open}
 use Rattle.nfsgw.specs.Grammar.{read, reading_of, line_of}
 use Rattle.nfsgw.specs.Headline.{Outside, Traffic, Moves, nothing, script, ahead_of}

@@ -8,7 +8,7 @@ use Rattle.append_store.specs.Calls.{Creates, MayCreate}
 use Rattle.nfsgw.specs.Steps.{State, Serving, step_of}
 use Rattle.nfsgw.specs.Answers.{Untouched}
 use Rattle.nfsgw.specs.Acts.{Act, Make, Turns}
-use Rattle.nfsgw.specs.Links.{Front, link_at, piece_on, arrival}
+use Rattle.nfsgw.specs.Links.{link_at, piece_on, arrival}
 use Rattle.nfsgw.specs.Outside.{IsStep, IsCut, Cuts, IsActed, IsReceived, IsStepped}
 use Rattle.nfsgw.specs.declared.world.Stepped.{Stepped}
 use Rattle.nfsgw.specs.declared.world.Stepped.TheVariants as stepped

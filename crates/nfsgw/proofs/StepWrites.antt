@@ -1,5 +1,5 @@
 -- What a WRITE and a turn come to, case by case.
-use Rattle.std.proofs.Common.{◌≡◌, ℕ, ◌+◌, ◌<◌, ◌≤◌, ◌↔◌, nat_le, nat_lt, Bool, true, false, Option, None, Some, List, [], ◌∷◌, ◌++◌, length, refl, sym, ◌∙◌, ap, subst, append-nil, ◌⊎◌, inl, inr, IfSome, Result, Ok, Err, IfOk, OnErr, arith}
+use Rattle.std.proofs.Common.{◌≡◌, ℕ, ◌+◌, ◌≤◌, ◌↔◌, Bool, true, false, Option, None, Some, List, [], ◌∷◌, ◌++◌, length, refl, sym, ◌∙◌, ap, subst, append-nil, IfSome, Result, Ok, Err, IfOk, OnErr, arith}
 use Rattle.gw_outside.specs.Causes.{Rose}
 use Rattle.std.specs.Prelude.{◌==◌, if◌then◌else◌}
 use Rattle.gw_model.specs.Ahead.{Ahead, Called, Good, Bad, next_call}

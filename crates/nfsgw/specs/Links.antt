@@ -3,7 +3,7 @@ use Rattle.std.specs.Prelude.{ℕ, Bool, true, false, List, [], ◌∷◌, ◌++
 use Rattle.std.specs.Ordering.{nat_cmp}
 use Rattle.std.specs.BTreeMap.{insert_entry, is_at}
 use Rattle.std.specs.Map.{lookup, set_value}
-use Rattle.rpc_record.specs.Records.{Records, End, Rest, Broken, records}
+use Rattle.rpc_record.specs.Records.{End, Rest, Broken, records}
 use Rattle.nfsgw.specs.Acts.{Act, Make, Ends, Turns, act_ends}
 use Rattle.nfsgw.specs.Requests.{act_of}
 use Rattle.nfsgw.specs.declared.link.Link.{Link}

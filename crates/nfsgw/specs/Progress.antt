@@ -1,9 +1,7 @@
 -- How a run gets from one line to the next, and where it ends.
-use Rattle.std.specs.Prelude.{◌≡◌, ℕ, ◌+◌, ◌≤◌, Bool, true, false, List, [], ◌++◌, length, Option, None}
+use Rattle.std.specs.Prelude.{◌≡◌, ℕ, ◌+◌, ◌≤◌, Bool, true, List, [], ◌++◌, length, Option}
 use Rattle.std.specs.Io.KnownBytes.{IsAtEnd, Appends}
-use Rattle.gw_model.specs.declared.object.ObjectId.{ObjectId}
 use Rattle.gw_model.specs.Ahead.{Called}
-use Rattle.append_store.specs.State.{ObjectState}
 use Rattle.transcript.specs.Script.{Script, Stop, AtEnd, AtBad, AtOpen, stops, script_from, IsPart}
 use Rattle.transcript.specs.Writing.{IsPrefix, AppendsPrefix}
 use Rattle.nfsgw.specs.Grammar.{read}

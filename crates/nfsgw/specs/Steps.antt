@@ -1,5 +1,5 @@
 -- What the program keeps of the world, and what each act makes of that: of a write that was put the range alone is kept.
-use Rattle.std.specs.Prelude.{ℕ, ◌+◌, ◌^◌, Bool, true, false, ◌&&◌, ◌||◌, List, [], ◌∷◌, ◌++◌, map, length, take, Option, Some, None, is_some, nat_lt, if◌then◌else◌}
+use Rattle.std.specs.Prelude.{ℕ, ◌+◌, Bool, true, false, ◌&&◌, ◌||◌, List, [], ◌∷◌, ◌++◌, map, length, take, Option, Some, None, is_some, nat_lt, if◌then◌else◌}
 use Rattle.gw_model.specs.Ahead.{Ahead, Called, Good, Bad, next_call}
 use Rattle.gw_model.specs.File.{Task, Put, Job, NotWritten, Answer, Failure, Writer, Entry, Side}
 use Rattle.gw_model.specs.Admission.{io, WriteRequest}

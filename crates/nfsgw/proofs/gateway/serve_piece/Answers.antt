@@ -1,5 +1,4 @@
-use Rattle.std.proofs.Common.{◌≡◌, ◌++◌, length, true, false, refl, sym, ◌∙◌, ap, arith, string_bytes}
-use Rattle.nfsgw.specs.Streams.{IsHeard}
+use Rattle.std.proofs.Common.{◌≡◌, ◌++◌, length, true, false, refl, ◌∙◌, ap, arith, string_bytes}
 use Rattle.nfsgw.proofs.StepWrites.{always_err}
 use Rattle.nfsgw.proofs.Hearing.{hears_start, hears_cut, hears_more, hears_fault, hears_served_cut, hears_end, hears_next, less_ahead}
 use Rattle.nfsgw.proofs.gateway.serve_piece.Goals as goal

@@ -1,4 +1,4 @@
-use Rattle.std.proofs.Common.{◌≡◌, ◌≢◌, ◌≤◌, ◌+◌, ◌++◌, length, string_bytes, is_some}
+use Rattle.std.proofs.Common.{◌≡◌, ◌≢◌, ◌+◌, ◌++◌, length, string_bytes, is_some}
 use Rattle.std.specs.Option.{option_map}
 use Rattle.gw_model.specs.declared.object.ObjectId.{ObjectId}
 use Rattle.nfsgw.specs.Links.{heard_of}

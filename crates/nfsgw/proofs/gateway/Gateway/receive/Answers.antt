@@ -1,4 +1,4 @@
-use Rattle.std.proofs.Common.{◌≡◌, refl, sym, ◌∙◌, ap, arith}
+use Rattle.std.proofs.Common.{refl, sym, ◌∙◌, ap, arith}
 use Rattle.nfsgw.specs.Links.{Front}
 use Rattle.nfsgw.proofs.StepWrites.{always_err}
 use Rattle.nfsgw.proofs.Doing.{cuts_untouched}

@@ -1,4 +1,4 @@
-use Rattle.std.proofs.Common.{refl, ◌∙◌}
+use Rattle.std.proofs.Common.{refl}
 use Rattle.nfsgw.specs.Outside.{body_id}
 use Rattle.nfsgw.proofs.Ready.{unmapped}
 use Rattle.nfsgw.proofs.StepCases.{made_stepped, received_stepped, turn_stepped}

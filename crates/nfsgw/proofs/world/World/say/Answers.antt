@@ -1,4 +1,4 @@
-use Rattle.std.proofs.Common.{◌≡◌, ap, ◌∙◌, string_bytes}
+use Rattle.std.proofs.Common.{ap, ◌∙◌, string_bytes}
 use Rattle.tickets.specs.Desk.{DeskState}
 use Rattle.nfsgw.specs.Answers.{text_in}
 use Rattle.nfsgw.specs.Steps.{State}
