@@ -1,5 +1,5 @@
 -- What a call told leads to, for the file.
-use Rattle.std.proofs.Common.{◌≡◌, ℕ, refl, sym, ◌∙◌, ap, subst}
+use Rattle.std.proofs.Common.{◌≡◌, refl, sym, ◌∙◌, ap, subst}
 use Rattle.gw_model.specs.Ahead.{Ahead}
 use Rattle.gw_model.specs.File.{File, Step}
 use Rattle.gw_model.specs.Admission.{write, commit, read, no_memory}
@@ -7,7 +7,6 @@ use Rattle.gw_model.specs.Sides.{Told, Stands, Leads, side_write, side_commit, s
 use Rattle.gw_model.proofs.Sides.{write_leads, commit_leads, read_leads}
 use Rattle.gw_model.proofs.Cases.{write_refused, commit_refused, read_refused}
 use Rattle.tickets.specs.Desk.{TicketId}
-use Rattle.tickets.specs.declared.answer.Answer.{Answer}
 use Rattle.admit.specs.State.{AdmitState}
 use Rattle.admit.specs.Calls.{write_request, commit_request, read_request, answers_of, ahead_after, Follows, ReceiveLaw, CommitLaw, FetchLaw, GivenUpLaw, PumpedLaw, news_of}
 use Rattle.gw_model.specs.Admission.{pump_with}

@@ -1,5 +1,5 @@
 -- What a call of an admission side answers, and what it leaves.
-use Rattle.std.specs.Prelude.{◌≡◌, ℕ, ◌+◌, Bool, true, false, Option, None, Some, List, [], ◌∷◌, ◌++◌, length, slice_get, drop}
+use Rattle.std.specs.Prelude.{◌≡◌, ℕ, ◌+◌, Bool, true, false, Option, None, Some, List, [], ◌∷◌, length, slice_get, drop}
 use Rattle.std.specs.Option.{option_map}
 use Rattle.gw_model.specs.Ahead.{Ahead, refused, past_refusal}
 use Rattle.gw_model.specs.File as model
