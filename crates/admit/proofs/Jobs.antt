@@ -4,11 +4,13 @@ use Rattle.std.specs.Prelude.{◌&&◌, if◌then◌else◌}
 use Rattle.std.proofs.lemmas.Bool.Decides.{nat_tests}
 use Rattle.std.proofs.lemmas.Bool.{lt-ltb, le-ltb}
 use Rattle.std.proofs.lemmas.List.{map-append}
+use Rattle.gw_model.specs.File as model
 use Rattle.gw_model.specs.File.{is_settle, is_fetch, is_spilled}
 use Rattle.gw_model.specs.Admission.{send}
 use Rattle.admit.specs.declared.job.Job.{Job}
 use Rattle.admit.specs.declared.job.Job.TheVariants.{Put, Compare, Fetch, Settle}
 use Rattle.admit.specs.Jobs.{job_of}
+use Rattle.admit.proofs.Lines.{follow-rest, follow-snoc, length-last, next-first, prefix-refl, prefix-trans, sizes-first, sizes-snoc}
 use Rattle.admit.specs.Queues.{are_light, jobs_of, weight_of, settles_in, fetches_in, job_weight}
 
 pub weight-snoc : (js : List Job) (j : Job) → weight_of (js ++ j ∷ []) ≡ weight_of js + job_weight j
@@ -45,31 +47,26 @@ not_spilled (Fetch offset count ticket) = refl
 not_spilled (Settle ticket) = refl
 
 -- a job that is there is sent where there is room
-pub send-one : (slots : ℕ) (line ready : List Job) (j : Job) → Some j ≡ slice_get ready 0 → length line < slots → send slots (jobs_of (line ++ j ∷ [])) (jobs_of (drop 1 ready)) ≡ send slots (jobs_of line) (jobs_of ready)
-send-one slots line [] j is lt = cc
-send-one slots line (i ∷ js) j is lt =
+pub send-one : (slots : ℕ) (line more : List model.Job) (ready : List Job) (j : Job) → Some j ≡ slice_get ready 0 → length line < slots → more ≡ line ++ job_of j ∷ [] → send slots more (jobs_of (drop 1 ready)) ≡ send slots line (jobs_of ready)
+send-one slots line more [] j is lt sent = cc
+send-one slots line more (i ∷ js) j is lt sent =
     let same : j ≡ i = cc in
-    let far : nat_lt (length (jobs_of line)) slots ≡ true = ap (λ n. nat_lt n slots) (length-map line) ∙ lt-ltb (length line) slots lt in
-    let right : send slots (jobs_of line) (jobs_of (i ∷ js)) ≡ send slots (jobs_of line ++ job_of i ∷ []) (jobs_of js) = rw (far, not_spilled i) refl in
-    ap (λ ls. send slots ls (jobs_of js)) (map-append job_of line (j ∷ []) ∙ ap (λ k. jobs_of line ++ job_of k ∷ []) same) ∙ sym right
-  where
-    length-map : (js : List Job) → length (jobs_of js) ≡ length js
-    length-map [] = refl
-    length-map (j ∷ js) = ap suc (length-map js)
+    let far : nat_lt (length line) slots ≡ true = lt-ltb (length line) slots lt in
+    let right : send slots line (jobs_of (i ∷ js)) ≡ send slots (line ++ job_of i ∷ []) (jobs_of js) = rw (far, not_spilled i) refl in
+    ap (λ ls. send slots ls (jobs_of js)) (sent ∙ ap (λ k. line ++ job_of k ∷ []) same) ∙ sym right
 
-pub send-full : (slots : ℕ) (line ready : List Job) → slots ≤ length line → send slots (jobs_of line) (jobs_of ready) ≡ record { line = jobs_of line; ready = jobs_of ready }
+pub send-full : (slots : ℕ) (line : List model.Job) (ready : List Job) → slots ≤ length line → send slots line (jobs_of ready) ≡ record { line = line; ready = jobs_of ready }
 send-full slots line [] le = refl
 send-full slots line (j ∷ js) le =
-    let full : nat_lt (length (jobs_of line)) slots ≡ false = ap (λ n. nat_lt n slots) (length-map line) ∙ le-ltb (length line) slots le in
+    let full : nat_lt (length line) slots ≡ false = le-ltb (length line) slots le in
     rw full refl
-  where
-    length-map : (js : List Job) → length (jobs_of js) ≡ length js
-    length-map [] = refl
-    length-map (j ∷ js) = ap suc (length-map js)
 
-pub send-none : (slots : ℕ) (line ready : List Job) → None ≡ slice_get ready 0 → send slots (jobs_of line) (jobs_of ready) ≡ record { line = jobs_of line; ready = jobs_of ready }
-send-none slots line [] is = refl
-send-none slots line (j ∷ js) is = cc
+pub send-none : (slots : ℕ) (line : List model.Job) (ready : List Job) → ready ≡ [] → send slots line (jobs_of ready) ≡ record { line = line; ready = jobs_of ready }
+send-none slots line ready is = rw is refl
+
+pub none_first : (ready : List Job) → None ≡ slice_get ready 0 → ready ≡ []
+none_first [] is = refl
+none_first (j ∷ js) is = cc
 
 one_at_most : (b : Bool) → (if b then 1 else 0) ≤ 1
 one_at_most true = omega arith
@@ -137,6 +134,6 @@ weight_bound (j ∷ js) all =
     let more : length (j ∷ js) ≡ length js + 1 = omega arith in
     omega (arith, one, rest, weight, more)
 
-pub ruleset queue_steps = (weight-snoc, settles-snoc, weight-first, settles-first, settles_few, fetches-snoc, fetches-first, fetches_few, light-snoc, light-first, light-drop, weight_bound)
+pub ruleset queue_steps = (weight-snoc, settles-snoc, weight-first, settles-first, settles_few, fetches-snoc, fetches-first, fetches_few, light-snoc, light-first, light-drop, weight_bound, sizes-snoc, sizes-first, follow-snoc, follow-rest, next-first)
 
-pub ruleset send_steps = (send-one, send-full, send-none)
+pub ruleset send_steps = (send-one, send-full, send-none, none_first, length-last, prefix-trans, prefix-refl)

@@ -9,7 +9,7 @@ use Rattle.gw_model.proofs.Cases.{write_refused, commit_refused, read_refused}
 use Rattle.tickets.specs.Desk.{TicketId}
 use Rattle.tickets.specs.declared.answer.Answer.{Answer}
 use Rattle.admit.specs.State.{AdmitState}
-use Rattle.admit.specs.Calls.{write_request, commit_request, read_request, answers_of, ahead_after, Follows, ReceiveLaw, CommitLaw, FetchLaw, GivenUpLaw, PumpedLaw, news_of}
+use Rattle.admit.specs.Calls.{write_request, commit_request, read_request, answers_of, ahead_after, becomes, Follows, ReceiveLaw, CommitLaw, FetchLaw, GivenUpLaw, PumpedLaw, news_of}
 use Rattle.gw_model.specs.Admission.{pump_with}
 use Rattle.gw_model.specs.Ending.{give_up}
 use Rattle.gw_model.proofs.Givings.{give_up_leads, pump_leads}
@@ -25,7 +25,7 @@ refusal ticket asker old new f t step same still h is = record {
 }
 
 -- it wasn't
-leads : (v : Verdict) (old new : AdmitState) (told : Told) (t : Ahead) (step : Step) → new ≡ record old { side = told.side } → answers_of v ≡ told.answers → ahead_after v t ≡ t → Leads step told t → Follows v t step new
+leads : (v : Verdict) (old new : AdmitState) (told : Told) (t : Ahead) (step : Step) → new ≡ becomes told new.line old → answers_of v ≡ told.answers → ahead_after v t ≡ t → Leads step told t → Follows v t step new
 leads v old new told t step is said still l = record {
   stands = subst (λ (s : AdmitState). Stands s.side step.file) (sym is) l.0;
   answers = l.1 ∙ sym said;
@@ -34,21 +34,21 @@ leads v old new told t step is said still l = record {
 
 pub received : ReceiveLaw
 received old r (NoMemory ticket) new mem told f t h e = refusal ticket r.ticket old new f t (write old.limits f (write_request r) t) told.0 told.1 h (write_refused old.limits f (write_request r) t e)
-received old r (Reply a) new mem told f t h e = leads (Reply a) old new (side_write old.limits old.side (write_request r)) t (write old.limits f (write_request r) t) told.2 told.3 refl (write_leads old.limits old.side f (write_request r) t h e mem)
-received old r Held new mem told f t h e = leads Held old new (side_write old.limits old.side (write_request r)) t (write old.limits f (write_request r) t) told.0 told.1 refl (write_leads old.limits old.side f (write_request r) t h e mem)
-received old r (Dropped ticket) new mem told f t h e = leads (Dropped ticket) old new (side_write old.limits old.side (write_request r)) t (write old.limits f (write_request r) t) told.1 told.2 refl (write_leads old.limits old.side f (write_request r) t h e mem)
+received old r (Reply a) new mem told f t h e = leads (Reply a) old new (side_write old.limits old.side (write_request r)) t (write old.limits f (write_request r) t) told.2 told.4 refl (write_leads old.limits old.side f (write_request r) t h e mem)
+received old r Held new mem told f t h e = leads Held old new (side_write old.limits old.side (write_request r)) t (write old.limits f (write_request r) t) told.0 told.2 refl (write_leads old.limits old.side f (write_request r) t h e mem)
+received old r (Dropped ticket) new mem told f t h e = leads (Dropped ticket) old new (side_write old.limits old.side (write_request r)) t (write old.limits f (write_request r) t) told.1 told.3 refl (write_leads old.limits old.side f (write_request r) t h e mem)
 
 pub committed : CommitLaw
 committed old r (NoMemory ticket) new told f t h e = refusal ticket r.ticket old new f t (commit old.limits f (commit_request r) t) told.0 told.1 h (commit_refused old.limits f (commit_request r) t e)
-committed old r (Reply a) new told f t h e = leads (Reply a) old new (side_commit old.limits old.side (commit_request r)) t (commit old.limits f (commit_request r) t) told.2 told.3 refl (commit_leads old.limits old.side f (commit_request r) t h e)
-committed old r Held new told f t h e = leads Held old new (side_commit old.limits old.side (commit_request r)) t (commit old.limits f (commit_request r) t) told.0 told.1 refl (commit_leads old.limits old.side f (commit_request r) t h e)
-committed old r (Dropped ticket) new told f t h e = leads (Dropped ticket) old new (side_commit old.limits old.side (commit_request r)) t (commit old.limits f (commit_request r) t) told.1 told.2 refl (commit_leads old.limits old.side f (commit_request r) t h e)
+committed old r (Reply a) new told f t h e = leads (Reply a) old new (side_commit old.limits old.side (commit_request r)) t (commit old.limits f (commit_request r) t) told.2 told.4 refl (commit_leads old.limits old.side f (commit_request r) t h e)
+committed old r Held new told f t h e = leads Held old new (side_commit old.limits old.side (commit_request r)) t (commit old.limits f (commit_request r) t) told.0 told.2 refl (commit_leads old.limits old.side f (commit_request r) t h e)
+committed old r (Dropped ticket) new told f t h e = leads (Dropped ticket) old new (side_commit old.limits old.side (commit_request r)) t (commit old.limits f (commit_request r) t) told.1 told.3 refl (commit_leads old.limits old.side f (commit_request r) t h e)
 
 pub fetched : FetchLaw
 fetched old r (NoMemory ticket) new told f t h e = refusal ticket r.ticket old new f t (read old.limits f (read_request r) t) told.0 told.1 h (read_refused old.limits f (read_request r) t e)
-fetched old r (Reply a) new told f t h e = leads (Reply a) old new (side_read old.limits old.side (read_request r)) t (read old.limits f (read_request r) t) told.2 told.3 refl (read_leads old.limits old.side f (read_request r) t h e)
-fetched old r Held new told f t h e = leads Held old new (side_read old.limits old.side (read_request r)) t (read old.limits f (read_request r) t) told.0 told.1 refl (read_leads old.limits old.side f (read_request r) t h e)
-fetched old r (Dropped ticket) new told f t h e = leads (Dropped ticket) old new (side_read old.limits old.side (read_request r)) t (read old.limits f (read_request r) t) told.1 told.2 refl (read_leads old.limits old.side f (read_request r) t h e)
+fetched old r (Reply a) new told f t h e = leads (Reply a) old new (side_read old.limits old.side (read_request r)) t (read old.limits f (read_request r) t) told.2 told.4 refl (read_leads old.limits old.side f (read_request r) t h e)
+fetched old r Held new told f t h e = leads Held old new (side_read old.limits old.side (read_request r)) t (read old.limits f (read_request r) t) told.0 told.2 refl (read_leads old.limits old.side f (read_request r) t h e)
+fetched old r (Dropped ticket) new told f t h e = leads (Dropped ticket) old new (side_read old.limits old.side (read_request r)) t (read old.limits f (read_request r) t) told.1 told.3 refl (read_leads old.limits old.side f (read_request r) t h e)
 
 pub gave_up : GivenUpLaw
 gave_up old moment new is f t h =

@@ -7,6 +7,7 @@ use Rattle.admit.specs.declared.job.Job.TheVariants.{Put, Compare, Fetch, Settle
 use Rattle.admit.specs.Jobs.{job_of}
 use Rattle.std.specs.Prelude.{if◌then◌else◌}
 use Rattle.admit.proofs.Jobs.{fetches-snoc, fetches_few}
+use Rattle.admit.proofs.Lines.{fetch_next, fetch_size}
 use Rattle.admit.specs.Queues.{jobs_of, fetches_in, fetches_of, others_of, job_weight}
 
 pub take_more : (n : ℕ) (js : List Job) (j : Job) → n ≤ length js → take n (js ++ j ∷ []) ≡ take n js
@@ -126,4 +127,4 @@ fetch_light (Settle ticket) is = cc
 pub fetches_at_end : (all ready leaving : List Job) (n : ℕ) → Parting all ready leaving n → fetches_in ready ≤ fetches_in all
 fetches_at_end all ready leaving n p = omega (arith, p.count)
 
-pub ruleset strike_steps = (fetches_few, fetch_light, fetches_at_end, fetch_parts, other_parts, fetch_room, starts)
+pub ruleset strike_steps = (fetches_few, fetch_light, fetch_next, fetch_size, fetches_at_end, fetch_parts, other_parts, fetch_room, starts)

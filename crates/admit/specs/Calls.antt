@@ -1,5 +1,5 @@
 -- What a call of an admission side answers, and what it leaves.
-use Rattle.std.specs.Prelude.{◌≡◌, ℕ, ◌+◌, Bool, true, false, Option, None, Some, List, [], ◌∷◌, ◌++◌, length, slice_get, drop}
+use Rattle.std.specs.Prelude.{◌≡◌, ℕ, ◌+◌, Bool, true, false, Option, None, Some, List, [], ◌∷◌, length}
 use Rattle.std.specs.Option.{option_map}
 use Rattle.gw_model.specs.Ahead.{Ahead, refused, past_refusal}
 use Rattle.gw_model.specs.File as model
@@ -8,9 +8,9 @@ use Rattle.gw_model.specs.Admission.{WriteRequest, CommitRequest, ReadRequest, j
 use Rattle.gw_model.specs.Sides.{Told, Stands, InMemory, side_write, side_commit, side_read, side_give_up, side_pump, NonePlaced}
 use Rattle.gw_model.specs.Ending.{give_up}
 use Rattle.tickets.specs.Desk.{TicketId}
-use Rattle.job_line.specs.declared.items.Job as line
+use Rattle.job_line.specs.declared.ends.LineIn.{LineIn}
 use Rattle.admit.specs.Answers.{IsPlain, answer_of}
-use Rattle.admit.specs.Jobs.{IsLineJob}
+use Rattle.admit.specs.Line.{GoesOn}
 use Rattle.admit.specs.State.{AdmitState}
 use Rattle.admit.specs.declared.request.WriteReq.{WriteReq}
 use Rattle.admit.specs.declared.request.CommitReq.{CommitReq}
@@ -41,13 +41,17 @@ abbrev pub is_refusal : Verdict → Bool
 is_refusal (NoMemory ticket) = true
 is_refusal _ = false
 
--- Want of memory changes nothing; every other answer and what it leaves are those of a step. A ticket handed back is the
--- asker's.
+-- what a step leaves, with what was sent over the line
+abbrev pub becomes : Told → LineIn → AdmitState → AdmitState
+becomes told line old = record old { side = told.side; line = line }
+
+-- Want of memory changes nothing; every other answer and what it leaves are those of a step, and the line goes on. A ticket
+-- handed back is the asker's.
 abbrev pub Tells : Verdict → TicketId → AdmitState → Told → AdmitState → Type 0
 Tells (NoMemory ticket) asker old told new = (ticket ≡ asker) × (new ≡ old)
-Tells (Reply a) asker old told new = (a.ticket ≡ asker) × IsPlain a.body × (new ≡ record old { side = told.side }) × (answers_of (Reply a) ≡ told.answers)
-Tells Held asker old told new = (new ≡ record old { side = told.side }) × ([] ≡ told.answers)
-Tells (Dropped ticket) asker old told new = (ticket ≡ asker) × (new ≡ record old { side = told.side }) × (answers_of (Dropped ticket) ≡ told.answers)
+Tells (Reply a) asker old told new = (a.ticket ≡ asker) × IsPlain a.body × (new ≡ becomes told new.line old) × GoesOn old.line new.line × (answers_of (Reply a) ≡ told.answers)
+Tells Held asker old told new = (new ≡ becomes told new.line old) × GoesOn old.line new.line × ([] ≡ told.answers)
+Tells (Dropped ticket) asker old told new = (ticket ≡ asker) × (new ≡ becomes told new.line old) × GoesOn old.line new.line × (answers_of (Dropped ticket) ≡ told.answers)
 
 -- the outcomes that are left: a refusal is noted
 abbrev pub ahead_after : Verdict → Ahead → Ahead
@@ -80,6 +84,10 @@ news_of n = option_map failure_of n.failed
 abbrev pub leaves : Told → AdmitState → AdmitState
 leaves told old = record old { side = told.side; left = told.answers }
 
+-- and with what was sent over the line
+abbrev pub pumped : Told → LineIn → AdmitState → AdmitState
+pumped told line old = record old { side = told.side; left = told.answers; line = line }
+
 -- For each file that the state before stands for, giving up leads to the state after, and its answers are left.
 abbrev pub GivesUp : AdmitState → ℕ → AdmitState → Type 0
 GivesUp old moment new = (f : File) (t : Ahead) → Stands old.side f → Stands new.side (give_up moment f t).file × ((give_up moment f t).answers ≡ new.left)
@@ -92,12 +100,6 @@ Pumps old news new = (f : File) (t : Ahead) → Stands old.side f → Stands new
 abbrev pub IsPumped : Pumped → AdmitState → AdmitState → Type 0
 IsPumped (Sent n) old new = (new.side.held.phase ≡ old.side.held.phase) × (length new.side.held.line ≡ length old.side.held.line + n)
 IsPumped TurnedStale old new = (is_stale old.side.held.phase ≡ false) × (is_stale new.side.held.phase ≡ true)
-
--- the first job that was sent is taken, or none where there is none
-abbrev pub IsTaken : Option line.Job → AdmitState → AdmitState → Type 0
-IsTaken None old new = (old.side.held.line ≡ []) × (new ≡ old)
-IsTaken (Some j) old new =
-    (first : model.Job) × (slice_get old.side.held.line 0 ≡ Some first) × IsLineJob j first × (new ≡ record old { side = record old.side { held = record old.side.held { line = drop 1 old.side.held.line } } })
 
 -- What the steps of an admission side mean for the file.
 
@@ -114,4 +116,4 @@ abbrev pub GivenUpLaw : Type 0
 GivenUpLaw = (old : AdmitState) (moment : ℕ) (new : AdmitState) → new ≡ leaves (side_give_up moment old.side) old → GivesUp old moment new
 
 abbrev pub PumpedLaw : Type 0
-PumpedLaw = (old : AdmitState) (news : News) (new : AdmitState) → NonePlaced old.side.held.ready → new ≡ leaves (side_pump old.limits (news_of news) old.side) old → Pumps old news new
+PumpedLaw = (old : AdmitState) (news : News) (new : AdmitState) → NonePlaced old.side.held.ready → new ≡ pumped (side_pump old.limits (news_of news) old.side) new.line old → Pumps old news new

@@ -8,6 +8,7 @@ mod hull;
 mod job;
 mod laws;
 mod leaving;
+mod line;
 mod meets;
 mod news;
 mod parts;

@@ -18,6 +18,7 @@ loop-ticket-preserved c =
     record {
       room = omega (arith, c.loop-ticket.invariant.room, some.2, c.push_job.ensures.len, c.push_job.ensures.capacity);
       line = c.push_job.ensures.line ∙ c.loop-ticket.invariant.line;
+      next = c.push_job.ensures.end ∙ (omega arith ∙ c.loop-ticket.invariant.next);
       fetches = search rules;
       jobs = ap (λ js. jobs_of js ++ more) c.push_job.ensures.items ∙ ap (λ js. js ++ more) (map-append job_of before one)
           ∙ append_assoc (jobs_of before) (jobs_of one) more ∙ ap (λ js. jobs_of before ++ js) (sym some.0) ∙ c.loop-ticket.invariant.jobs;
