@@ -22,7 +22,7 @@ use std::collections::VecDeque;
 use std::marker::Model;
 use tickets::Answer;
 
-/// The admission side of one open file. Of a write it keeps the bytes until its job is taken, and then its range alone.
+/// The admission side of one open file. Of a write it keeps the bytes until its job is sent, and then its range alone.
 #[derive(Drop)]
 pub struct Admit<M: PendingMap> {
     pub(crate) limits: Limits,
