@@ -10,8 +10,8 @@ ghost use Rattle.admit.specs.State.{phase_of};
 
 use crate::job::Job;
 use crate::leaving::{next_entry, next_job, next_waiting};
-use crate::phase::{HistoryEntry, Phase};
 use crate::line::{Line, count_jobs};
+use crate::phase::{HistoryEntry, Phase};
 use crate::queue::{Queue, send_all};
 use commit_queue::Waiting;
 use gw_model::{Hull, Limits};
@@ -182,6 +182,15 @@ impl<M: PendingMap> Admit<M> {
         self.queue.line.input.begun()
     }
 
+    /// What the side holds as sent: the jobs that were sent behind those that it heard were taken. A law; the function does
+    /// nothing.
+    pub fn line_law(&self)
+        ensures line { self.now.side.held.line ≡ drop self.now.heard (sent_jobs self.now.line) }
+        ensures heard { self.now.heard ≤ length (jobs_sent self.now.line) }
+    {
+        let _ = &self.queue;
+    }
+
     /// Counts the jobs in the line, by both of its ends. After it the jobs that the side holds as sent are just those.
     /// Takes no memory.
     pub fn beside(&mut self, output: &mut LineOut) -> usize
@@ -221,14 +230,6 @@ impl<M: PendingMap> Admit<M> {
             return Some(answer);
         }
         next_job(self.alloc, &mut self.leaving_jobs)
-    }
-
-    // What is held as sent is what was sent since the jobs that are known to be taken.
-    pub(crate) fn line_is(&self)
-        ensures line { self.now.side.held.line ≡ drop self.now.heard (sent_jobs self.now.line) }
-        ensures heard { self.now.heard ≤ length (jobs_sent self.now.line) }
-    {
-        let _ = &self.queue;
     }
 
     // The file is used at a moment, and its ready jobs are sent.
