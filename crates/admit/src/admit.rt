@@ -3,7 +3,7 @@ ghost use Rattle.std.specs.Prelude.{◌≡◌, ◌+◌, ◌<◌, ◌≤◌, ◌^
 ghost use Rattle.gw_model.specs.File as model;
 ghost use Rattle.gw_model.specs.Sides.{side_opened, use_side};
 ghost use Rattle.admit.specs.Leaving.{Hands};
-ghost use Rattle.job_line.specs.Ends.{IsOneContext, SameContextIn, SameContextOut, base_sent, free_slots, jobs_known, jobs_sent, jobs_taken, line_slots};
+ghost use Rattle.job_line.specs.Ends.{IsOneContext, SameContextIn, SameContextOut, base_sent, free_slots, jobs_known, jobs_sent, jobs_taken, line_slots, mark_sent, mark_taken};
 ghost use Rattle.admit.specs.Line.{GoesOn, next_jobs, sent_jobs};
 ghost use Rattle.admit.specs.Parts.{line_of, writes_of};
 ghost use Rattle.admit.specs.State.{phase_of};
@@ -200,8 +200,11 @@ impl<M: PendingMap> Admit<M> {
         ensures same_out { SameContextOut output.old output.new }
         ensures sent { jobs_sent self.new.line ≡ jobs_sent self.old.line }
         ensures taken { jobs_taken output.new ≡ jobs_taken output.old }
+        ensures mark { mark_taken output.new ≡ mark_sent self.new.line }
         ensures known { jobs_taken output.new ++ jobs_known output.new ≡ jobs_sent self.new.line }
         ensures exact { result ≡ length (jobs_known output.new) }
+        ensures most { result ≤ line_slots self.new.line }
+        ensures free { line_slots self.new.line ≤ result + free_slots self.new.line }
         ensures step { self.new ≡ record self.old { side = record self.old.side { held = record self.old.side.held { line = next_jobs output.new } }; line = self.new.line; heard = length (jobs_taken output.new) } }
     {
         count_jobs(&mut self.queue.line, output)

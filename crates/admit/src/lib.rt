@@ -1,5 +1,5 @@
 //! The admission side of an open file: it takes WRITEs, COMMITs and READs in, keeps the writes that wait for the bytes
-//! before them, and hands jobs to the writer in order.
+//! before them, and sends jobs to the writer in order, over a line.
 #![tactic(auto)]
 
 mod admit;

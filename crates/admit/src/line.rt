@@ -1,6 +1,6 @@
 // The end of the line that an admission side sends over.
 ghost use Rattle.std.specs.Prelude.{◌≡◌, ◌+◌, ◌-◌, ◌<◌, ◌≤◌, ◌^◌, [], ◌∷◌, ◌++◌, length};
-ghost use Rattle.job_line.specs.Ends.{IsOneContext, SameContextIn, SameContextOut, free_slots, jobs_known, jobs_sent, jobs_taken, line_slots};
+ghost use Rattle.job_line.specs.Ends.{IsOneContext, SameContextIn, SameContextOut, free_slots, jobs_known, jobs_sent, jobs_taken, line_slots, mark_sent, mark_taken};
 ghost use Rattle.admit.specs.Jobs.{IsNext, job_of, line_job, size_of};
 ghost use Rattle.admit.specs.Line.{GoesOn, last_sent, next_jobs, sent_before, sent_end};
 
@@ -87,8 +87,10 @@ pub fn count_jobs(line: &mut Line, output: &mut LineOut) -> usize
     ensures same_out { SameContextOut output.old output.new }
     ensures sent { jobs_sent line.new.input ≡ jobs_sent line.old.input }
     ensures taken { jobs_taken output.new ≡ jobs_taken output.old }
+    ensures mark { mark_taken output.new ≡ mark_sent line.new.input }
     ensures known { jobs_taken output.new ++ jobs_known output.new ≡ jobs_sent line.new.input }
     ensures exact { result ≡ length (jobs_known output.new) }
+    ensures most { result ≤ line_slots line.new.input }
 
     ensures many { line.new.in_line ≡ result }
     ensures jobs { last_sent line.new.in_line line.new.input ≡ next_jobs output.new }
