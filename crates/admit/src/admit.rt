@@ -91,6 +91,7 @@ impl<M: PendingMap> Admit<M> {
         ensures opened { IfOk result (λ a. a ≡ record { side = side_opened base hull moment; limits = limits; left = []; line = line; heard = 0 }) }
         ensures back { IfErr result (λ back. back ≡ line) }
     {
+        // Where there isn't even this much memory, the file isn't opened, rather than that its first requests are refused.
         let mut ready = VecDeque::new(alloc);
         if ready.reserve(limits.line_slots as usize).is_err() {
             return Err(line);
