@@ -1,25 +1,28 @@
 // One admission side.
-ghost use Rattle.std.specs.Prelude.{◌≡◌, ◌+◌, ◌<◌, ◌≤◌, ◌^◌, ◌&&◌, map, [], IfOk, IfSome, IsNone, Option, Some, None};
+ghost use Rattle.std.specs.Prelude.{◌≡◌, ◌+◌, ◌<◌, ◌≤◌, ◌^◌, ◌&&◌, ◌++◌, drop, length, map, [], IfErr, IfOk};
 ghost use Rattle.gw_model.specs.File as model;
 ghost use Rattle.gw_model.specs.Sides.{side_opened, use_side};
 ghost use Rattle.admit.specs.Leaving.{Hands};
-ghost use Rattle.admit.specs.Calls.{IsTaken};
+ghost use Rattle.job_line.specs.Ends.{IsOneContext, SameContextIn, SameContextOut, base_sent, free_slots, jobs_known, jobs_sent, jobs_taken, line_slots, mark_sent, mark_taken};
+ghost use Rattle.admit.specs.Line.{GoesOn, next_jobs, sent_jobs};
 ghost use Rattle.admit.specs.Parts.{line_of, writes_of};
 ghost use Rattle.admit.specs.State.{phase_of};
 
 use crate::job::Job;
 use crate::leaving::{next_entry, next_job, next_waiting};
+use crate::line::{Line, count_jobs};
 use crate::phase::{HistoryEntry, Phase};
-use crate::queue::{Queue, line_job, send_all};
+use crate::queue::{Queue, send_all};
 use commit_queue::Waiting;
-use gw_model::{Hull, Limits, NoMemory};
+use gw_model::{Hull, Limits};
+use job_line::{LineIn, LineOut};
 use range_map::PendingMap;
 use std::alloc::Global;
 use std::collections::VecDeque;
 use std::marker::Model;
 use tickets::Answer;
 
-/// The admission side of one open file. Of a write it keeps the bytes until its job is taken, and then its range alone.
+/// The admission side of one open file. Of a write it keeps the bytes until its job is sent, and then its range alone.
 #[derive(Drop)]
 pub struct Admit<M: PendingMap> {
     pub(crate) limits: Limits,
@@ -42,9 +45,11 @@ pub struct Admit<M: PendingMap> {
 }
 
 impl<M: PendingMap> Model for Admit<M> {
-    ghost use Rattle.std.specs.Prelude.{◌≡◌, map, ◌<◌, ◌≤◌, ◌^◌, [], ◌++◌, vec_len};
+    ghost use Rattle.std.specs.Prelude.{◌≡◌, map, ◌+◌, ◌<◌, ◌≤◌, ◌^◌, [], ◌++◌, vec_len};
     ghost use Rattle.std.specs.VecDeque.{deque_capacity};
     ghost use Rattle.admit.specs.State.{AdmitState, phase_of};
+    ghost use Rattle.job_line.specs.Ends.{free_slots, line_slots};
+    ghost use Rattle.admit.specs.Line.{ComesTo, end_after, last_sent, sent_before};
     ghost use Rattle.admit.specs.Queues.{jobs_of};
     ghost use Rattle.admit.specs.Leaving.{entries_left, waiting_left, jobs_left};
     ghost use Rattle.admit.specs.Parts.{AllFit, AllUpTo, writes_of, memory_of, all_waiting, line_of};
@@ -54,33 +59,42 @@ impl<M: PendingMap> Model for Admit<M> {
     ghost view = { λ a. record {
       side = record {
         seen = record { reach = a.reach; top = a.top; pending = writes_of (M.entries a.pending); entries = map line_of a.history.items };
-        held = record { ready = jobs_of a.queue.ready.items; line = jobs_of a.queue.line.items; waiting = all_waiting a.waiting.commits; hull = a.hull; phase = phase_of a.phase; used = a.used; changed = a.changed; placed = a.placed };
+        held = record { ready = jobs_of a.queue.ready.items; line = last_sent a.queue.line.in_line a.queue.line.input; waiting = all_waiting a.waiting.commits; hull = a.hull; phase = phase_of a.phase; used = a.used; changed = a.changed; placed = a.placed };
       };
       limits = a.limits;
       left = entries_left (M.entries a.leaving) ++ waiting_left a.leaving_waiting.commits ++ jobs_left a.leaving_jobs.items;
+      line = a.queue.line.input;
+      heard = sent_before a.queue.line.in_line a.queue.line.input;
     } };
 
-    ghost invariant = { λ a. (a.reach < 2 ^ 63) × AllFit (M.entries a.pending) × AllUpTo (vec_len a.history) (M.entries a.pending) × (a.memory ≡ memory_of (M.entries a.pending)) × (a.limits.history < 2 ^ 32) × (a.limits.line_slots ≤ 8) × (a.limits.line_slots ≤ deque_capacity a.queue.line) × (a.queue.fetches ≤ deque_capacity a.leaving_jobs) };
+    ghost invariant = { λ a. (a.reach < 2 ^ 63) × AllFit (M.entries a.pending) × AllUpTo (vec_len a.history) (M.entries a.pending) × (a.memory ≡ memory_of (M.entries a.pending)) × (a.limits.history < 2 ^ 32) × (a.limits.line_slots ≤ 8) × (a.limits.line_slots ≤ a.queue.line.in_line + free_slots a.queue.line.input) × (a.limits.line_slots ≤ line_slots a.queue.line.input) × ComesTo (end_after a.queue.line.input a.queue.ready.items) (phase_of a.phase) a.reach × (a.queue.fetches ≤ deque_capacity a.leaving_jobs) };
 }
 
 impl<M: PendingMap> Admit<M> {
     /// Makes the admission side of a file that is opened at a moment with `base` bytes, and with a hull of bytes that may
-    /// be lost. Takes memory.
+    /// be lost. It sends over a line in whose context nothing was sent yet. Takes memory, and hands the line back for want
+    /// of it.
     pub fn new(
         alloc: Global,
         base: u64,
+        line: LineIn,
         limits: Limits,
         hull: Option<Hull>,
         moment: u64,
-    ) -> Result<Admit<M>, NoMemory>
+    ) -> Result<Admit<M>, LineIn>
         requires base { base < 2 ^ 63 }
-        requires slots { limits.line_slots ≤ 8 }
+        requires context { base_sent line ≡ base }
+        requires unsent { jobs_sent line ≡ [] }
+        requires free { limits.line_slots ≤ free_slots line }
+        requires slots { (limits.line_slots ≤ 8) × (limits.line_slots ≤ line_slots line) }
         requires history { limits.history < 2 ^ 32 }
-        ensures { IfOk result (λ a. a ≡ record { side = side_opened base hull moment; limits = limits; left = [] }) }
+        ensures opened { IfOk result (λ a. a ≡ record { side = side_opened base hull moment; limits = limits; left = []; line = line; heard = 0 }) }
+        ensures back { IfErr result (λ back. back ≡ line) }
     {
-        let mut line = VecDeque::new(alloc);
-        if line.reserve(limits.line_slots as usize).is_err() {
-            return Err(NoMemory);
+        // Where there isn't even this much memory, the file isn't opened, rather than that its first requests are refused.
+        let mut ready = VecDeque::new(alloc);
+        if ready.reserve(limits.line_slots as usize).is_err() {
+            return Err(line);
         }
         Ok(Admit {
             limits,
@@ -89,8 +103,11 @@ impl<M: PendingMap> Admit<M> {
             pending: M::new(alloc),
             memory: 0,
             queue: Queue {
-                ready: VecDeque::new(alloc),
-                line,
+                ready,
+                line: Line {
+                    input: line,
+                    in_line: 0,
+                },
                 weight: 0,
                 settles: 0,
                 fetches: 0,
@@ -159,20 +176,50 @@ impl<M: PendingMap> Admit<M> {
         self.pending.len() == 0 && self.queue.ready.is_empty() && self.waiting.len() == 0
     }
 
-    /// Gives the history back.
-    pub fn into_parts(self) -> Vec<HistoryEntry>
-        requires none_left { self.left ≡ [] }
-        ensures { map line_of result.items ≡ self.side.seen.entries }
+    /// How many marks its end of the line has sent.
+    pub fn begun(&self) -> u64
+        ensures { result ≡ self.now.line.begun }
     {
-        self.history
+        self.queue.line.input.begun()
     }
 
-    /// Takes the first job that was sent, or none where there is none. Takes no memory.
-    pub fn take(&mut self) -> Option<job_line::Job>
-        ensures { IsTaken result self.old self.new }
+    /// What the side holds as sent: the jobs that were sent behind those that it heard were taken. A law; the function does
+    /// nothing.
+    pub fn line_law(&self)
+        ensures line { self.now.side.held.line ≡ drop self.now.heard (sent_jobs self.now.line) }
+        ensures heard { self.now.heard ≤ length (jobs_sent self.now.line) }
     {
-        let job = self.queue.line.pop_front()?;
-        Some(line_job(job))
+        let _ = &self.queue;
+    }
+
+    /// Counts the jobs in the line, by both of its ends. After it the jobs that the side holds as sent are just those.
+    /// Takes no memory.
+    pub fn beside(&mut self, output: &mut LineOut) -> usize
+        requires { IsOneContext self.old.line output.old }
+        ensures one { IsOneContext self.new.line output.new }
+        ensures same_in { SameContextIn self.old.line self.new.line }
+        ensures same_out { SameContextOut output.old output.new }
+        ensures sent { jobs_sent self.new.line ≡ jobs_sent self.old.line }
+        ensures taken { jobs_taken output.new ≡ jobs_taken output.old }
+        ensures mark { mark_taken output.new ≡ mark_sent self.new.line }
+        ensures known { jobs_taken output.new ++ jobs_known output.new ≡ jobs_sent self.new.line }
+        ensures exact { result ≡ length (jobs_known output.new) }
+        ensures most { result ≤ line_slots self.new.line }
+        ensures free { line_slots self.new.line ≤ result + free_slots self.new.line }
+        ensures step { self.new ≡ record self.old { side = record self.old.side { held = record self.old.side.held { line = next_jobs output.new } }; line = self.new.line; heard = length (jobs_taken output.new) } }
+    {
+        count_jobs(&mut self.queue.line, output)
+    }
+
+    /// Gives back the end of the line and the history.
+    pub fn into_parts(self) -> (LineIn, Vec<HistoryEntry>)
+        requires none_left { self.left ≡ [] }
+        ensures line { result.0 ≡ self.line }
+        ensures history { map line_of result.1.items ≡ self.side.seen.entries }
+    {
+        let queue = self.queue;
+        let line = queue.line;
+        (line.input, self.history)
     }
 
     /// The next answer that a call left. Takes no memory.
@@ -192,7 +239,8 @@ impl<M: PendingMap> Admit<M> {
     // The file is used at a moment, and its ready jobs are sent.
     #[tactic(auto, unfolding(gw_model::specs::Admission::used_at, gw_model::specs::Admission::send_ready))]
     pub(crate) fn use_at(&mut self, moment: u64)
-        ensures { self.new ≡ record self.old { side = use_side self.old.limits moment self.old.side } }
+        ensures step { self.new ≡ record self.old { side = use_side self.old.limits moment self.old.side; line = self.new.line } }
+        ensures line { GoesOn self.old.line self.new.line }
     {
         self.used = moment;
         send_all(&mut self.queue, self.limits.line_slots as usize);
