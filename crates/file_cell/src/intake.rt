@@ -1,0 +1,100 @@
+// The admission side of an open file, with both ends of its line.
+ghost use Rattle.std.specs.Prelude.{◌≡◌, ◌+◌, ◌<◌, ◌≤◌, ◌^◌, ◌++◌, [], IfErr, IfOk, IfSome, IfNone, length};
+ghost use Rattle.gw_model.specs.Sides.{side_opened, side_pump, side_read, side_write};
+ghost use Rattle.job_line.specs.Ends.{IsOneContext, SameContextIn, SameContextOut, SameLineIn, SameLineOut, jobs_known, jobs_sent, jobs_taken, line_slots, mark_sent, mark_taken};
+ghost use Rattle.admit.specs.Calls.{news_of, read_request, write_request};
+ghost use Rattle.admit.specs.Leaving.{Hands};
+ghost use Rattle.file_cell.specs.State.{in_ring, taken_end, with_line};
+ghost use Rattle.file_cell.specs.Steps.{IsPumped, IsTaken, Meets};
+
+use admit::{Admit, News, Pumped, ReadReq, Verdict, WriteReq};
+use gw_model::{FileId, Hull, Limits};
+use job_line::{Job, LineIn, LineOut, begin};
+use range_map::PendingMap;
+use std::alloc::Global;
+use std::marker::Model;
+use tickets::Answer;
+
+/// The admission side of an open file, with both ends of the line to its writer.
+#[derive(Drop)]
+pub struct Intake<M: PendingMap> {
+    admit: Admit<M>,
+    output: LineOut,
+}
+
+impl<M: PendingMap> Model for Intake<M> {
+    ghost use Rattle.std.specs.Prelude.{◌^◌, ◌<◌};
+    ghost use Rattle.job_line.specs.Ends.{IsOneContext};
+    ghost use Rattle.file_cell.specs.State.{IntakeState, intake_of, taken_end};
+
+    ghost Value = { IntakeState };
+
+    ghost view = { λ a. intake_of a.admit a.output };
+
+    ghost invariant = { λ a. IsOneContext a.admit.line a.output × (taken_end a.output < 2 ^ 64) };
+}
+
+// Counts the jobs in the line. After it the side holds as sent just those.
+#[tactic(auto, using(crate::proofs::Ring::ring_length))]
+fn level<M: PendingMap>(admit: &mut Admit<M>, output: &mut LineOut) -> usize
+    requires { IsOneContext admit.old.line output.old }
+    ensures one { IsOneContext admit.new.line output.new }
+    ensures same_in { SameContextIn admit.old.line admit.new.line }
+    ensures same_out { SameContextOut output.old output.new }
+    ensures sent { jobs_sent admit.new.line ≡ jobs_sent admit.old.line }
+    ensures taken { jobs_taken output.new ≡ jobs_taken output.old }
+    ensures mark { mark_taken output.new ≡ mark_sent admit.new.line }
+    ensures known { jobs_taken output.new ++ jobs_known output.new ≡ jobs_sent admit.new.line }
+    ensures exact { result ≡ length (jobs_known output.new) }
+    ensures count { result ≡ length (in_ring admit.old.line output.old) }
+    ensures level { admit.new ≡ record admit.old { side = with_line (in_ring admit.old.line output.old) admit.old.side; line = admit.new.line; heard = length (jobs_taken output.new) } }
+{
+    let count = admit.beside(output);
+    admit.line_law();
+    count
+}
+
+impl<M: PendingMap> Intake<M> {
+    /// Takes a WRITE in.
+    pub fn receive(&mut self, request: WriteReq) -> Verdict
+        requires fits { request.offset + length request.bytes < 2 ^ 63 }
+        requires count { length request.bytes ≤ 1048576 }
+        ensures step { Meets result request.ticket self.old (side_write self.old.limits self.old.side (write_request request)) self.new }
+    {
+        level(&mut self.admit, &mut self.output);
+        let verdict = self.admit.receive(request);
+        self.admit.line_law();
+        verdict
+    }
+
+    /// Takes the next job off the line.
+    pub fn take(&mut self) -> Option<Job>
+        ensures taken { IfSome result (λ j. IsTaken j self.old self.new) }
+        ensures none { IfNone result ((self.old.side.held.line ≡ []) × (self.new ≡ self.old)) }
+    {
+        if level(&mut self.admit, &mut self.output) == 0 {
+            return None;
+        }
+        self.output.take()
+    }
+
+    /// Hears of the writer, and sends what is ready.
+    pub fn pump(&mut self, news: News) -> Pumped
+        requires none_left { self.old.left ≡ [] }
+        ensures step { self.new ≡ record self.old { side = (side_pump self.old.limits (news_of news) self.old.side).side; left = (side_pump self.old.limits (news_of news) self.old.side).answers } }
+        ensures pumped { IsPumped result self.old.side self.new.side }
+    {
+        level(&mut self.admit, &mut self.output);
+        let pumped = self.admit.pump(news);
+        self.admit.line_law();
+        pumped
+    }
+
+    /// The next answer that a call left.
+    pub fn next_answer(&mut self) -> Option<Answer>
+        ensures hands { Hands result self.old.left self.new.left }
+        ensures rest { self.new ≡ record self.old { left = self.new.left } }
+    {
+        self.admit.next_answer()
+    }
+}

@@ -1,0 +1,4 @@
+//! The context of one open file: its admission side, its writer, and the line between them.
+#![tactic(auto)]
+
+mod intake;
