@@ -2,9 +2,16 @@
 use Rattle.std.specs.Prelude.{◌≡◌, ℕ, ◌+◌, ◌^◌, ◌<◌, ◌≤◌, Bool, false, true, List, [], ◌∷◌, length, drop, Option}
 use Rattle.gw_model.specs.Ahead.{Ahead, refused}
 use Rattle.gw_model.specs.File.{Step, File, Side, Failure, is_stale}
-use Rattle.gw_model.specs.Sides.{Told, Stands}
+use Rattle.gw_model.specs.declared.FileId.{FileId}
+use Rattle.gw_model.specs.declared.Hull.{Hull}
+use Rattle.gw_model.specs.declared.limits.Limits.{Limits}
+use Rattle.gw_model.specs.Sides.{Told, Stands, side_opened, side_turn}
+use Rattle.gw_model.specs.Views.{Noted}
 use Rattle.tickets.specs.Desk.{TicketId}
 use Rattle.job_line.specs.Items.{put_size}
+use Rattle.job_line.specs.Ends.{IsOneContext, SameLineIn, SameLineOut, jobs_sent, jobs_taken}
+use Rattle.job_line.specs.declared.ends.LineIn.{LineIn}
+use Rattle.job_line.specs.declared.ends.LineOut.{LineOut}
 use Rattle.job_line.specs.declared.items.Job.{Job}
 use Rattle.admit.specs.Answers.{IsPlain}
 use Rattle.admit.specs.Calls.{ahead_after, answers_of}
@@ -14,7 +21,35 @@ use Rattle.admit.specs.declared.request.Verdict.TheVariants.{Reply, Held, Droppe
 use Rattle.admit.specs.declared.request.Pumped.{Pumped}
 use Rattle.admit.specs.declared.request.Pumped.TheVariants.{Sent, TurnedStale}
 use Rattle.writeback.specs.Answers.{size_of}
+use Rattle.writeback.specs.State.{FileSeen, WriterState, fresh}
+use Rattle.writeback.specs.Steps.{Works}
 use Rattle.file_cell.specs.State.{IntakeState, CellState, with_line}
+use Rattle.file_cell.specs.declared.cell.Stepped.{Stepped}
+use Rattle.file_cell.specs.declared.cell.Stepped.TheVariants.{SyncFirst, Nothing, Did}
+
+-- opening
+
+-- An empty line is handed back: it is the one that was given, and at most one context more began on it.
+pub record IsBack (i : LineIn) (o : LineOut) (j : LineIn) (p : LineOut) : Type 0 where
+  pub one : IsOneContext j p
+  pub empty : jobs_sent j ≡ jobs_taken p
+  pub same_in : SameLineIn i j
+  pub same_out : SameLineOut o p
+  pub begun : j.begun ≤ i.begun + 1
+
+-- A cell of a file that was just opened.
+abbrev pub fresh_cell : FileId → FileSeen → Limits → Option Hull → ℕ → ℕ → ℕ → CellState
+fresh_cell id file limits hull moment slots begun = record {
+  id = id;
+  base = length file.content;
+  side = side_opened (length file.content) hull moment;
+  limits = limits;
+  writer = fresh (length file.content);
+  file = file;
+  left = [];
+  slots = slots;
+  begun = begun;
+}
 
 -- requests
 
@@ -53,3 +88,29 @@ pub record IsTaken (j : Job) (old new : IntakeState) : Type 0 where
 abbrev pub IsPumped : Pumped → Side → Side → Type 0
 IsPumped (Sent n) old new = (new.held.phase ≡ old.held.phase) × (length new.held.line ≡ length old.held.line + n)
 IsPumped TurnedStale old new = (is_stale old.held.phase ≡ false) × (is_stale new.held.phase ≡ true)
+
+-- a step's state, with its answers left to be handed out
+abbrev pub pumped : Told → CellState → CellState
+pumped told old = record old { side = told.side; left = told.answers }
+
+-- turns
+
+-- the writer where no answer is left
+abbrev pub writer_of : CellState → WriterState
+writer_of c = record { writer = c.writer; left = []; file = c.file }
+
+-- A turn did the first job of the line, whose bytes, if it is a Put, begin at `start`. What it answered is left.
+pub record Turns (tells : Type 0) (old new : CellState) (noted noted' : Noted) : Type 0 where
+  pub job : Job
+  pub start : ℕ
+  pub room : length old.writer.owed < 1024
+  pub first : old.side.held.line ≡ model_job start job ∷ drop 1 old.side.held.line
+  pub works : Works tells job new.left (writer_of old) (writer_of new) noted noted'
+  pub rest : new ≡ record old { side = side_turn (length old.writer.owed) old.side; writer = new.writer; file = new.file; left = new.left }
+
+-- A sync comes first exactly where 1,024 tickets wait for one, and else there is nothing to do exactly where the line is
+-- empty.
+abbrev pub IsStepped : Type 0 → Stepped → CellState → CellState → Noted → Noted → Type 0
+IsStepped tells SyncFirst old new noted noted' = (1024 ≤ length old.writer.owed) × (new ≡ old) × (noted' ≡ noted)
+IsStepped tells Nothing old new noted noted' = (length old.writer.owed < 1024) × (old.side.held.line ≡ []) × (new ≡ old) × (noted' ≡ noted)
+IsStepped tells Did old new noted noted' = Turns tells old new noted noted'

@@ -1,11 +1,11 @@
 // The admission side of an open file, with both ends of its line.
-ghost use Rattle.std.specs.Prelude.{◌≡◌, ◌+◌, ◌<◌, ◌≤◌, ◌^◌, ◌++◌, [], IfErr, IfOk, IfSome, IfNone, length};
+ghost use Rattle.std.specs.Prelude.{◌≡◌, ◌+◌, ◌<◌, ◌≤◌, ◌^◌, ◌-◌, ◌++◌, [], IfErr, IfOk, IfSome, IfNone, length};
 ghost use Rattle.gw_model.specs.Sides.{side_opened, side_pump, side_read, side_write};
 ghost use Rattle.job_line.specs.Ends.{IsOneContext, SameContextIn, SameContextOut, SameLineIn, SameLineOut, jobs_known, jobs_sent, jobs_taken, line_slots, mark_sent, mark_taken};
 ghost use Rattle.admit.specs.Calls.{news_of, read_request, write_request};
 ghost use Rattle.admit.specs.Leaving.{Hands};
 ghost use Rattle.file_cell.specs.State.{in_ring, taken_end, with_line};
-ghost use Rattle.file_cell.specs.Steps.{IsPumped, IsTaken, Meets};
+ghost use Rattle.file_cell.specs.Steps.{IsBack, IsPumped, IsTaken, Meets};
 
 use admit::{Admit, News, Pumped, ReadReq, Verdict, WriteReq};
 use gw_model::{FileId, Hull, Limits};
@@ -55,6 +55,33 @@ fn level<M: PendingMap>(admit: &mut Admit<M>, output: &mut LineOut) -> usize
 }
 
 impl<M: PendingMap> Intake<M> {
+    /// Begins the context of a file of `base` bytes on an empty line. Takes memory, and hands the line back for want of it.
+    pub fn open(
+        alloc: Global,
+        file: FileId,
+        base: u64,
+        line: (LineIn, LineOut),
+        limits: Limits,
+        hull: Option<Hull>,
+        moment: u64,
+    ) -> Result<Intake<M>, (LineIn, LineOut)>
+        requires base { base < 2 ^ 63 }
+        requires one { IsOneContext line.0 line.1 }
+        requires empty { jobs_sent line.0 ≡ jobs_taken line.1 }
+        requires last { line.0.begun < 2 ^ 64 - 1 }
+        requires slots { (limits.line_slots ≤ 8) × (limits.line_slots ≤ line_slots line.0) }
+        requires history { limits.history < 2 ^ 32 }
+        ensures opened { IfOk result (λ a. a ≡ record { side = side_opened base hull moment; limits = limits; left = []; slots = line_slots line.0; begun = line.0.begun + 1; taken = base }) }
+        ensures back { IfErr result (λ back. IsBack line.0 line.1 back.0 back.1) }
+    {
+        let (mut input, mut output) = line;
+        begin(&mut input, &mut output, file, base);
+        match Admit::new(alloc, base, input, limits, hull, moment) {
+            Ok(admit) => Ok(Intake { admit, output }),
+            Err(input) => Err((input, output)),
+        }
+    }
+
     /// Takes a WRITE in.
     pub fn receive(&mut self, request: WriteReq) -> Verdict
         requires fits { request.offset + length request.bytes < 2 ^ 63 }
@@ -63,6 +90,16 @@ impl<M: PendingMap> Intake<M> {
     {
         level(&mut self.admit, &mut self.output);
         let verdict = self.admit.receive(request);
+        self.admit.line_law();
+        verdict
+    }
+
+    /// Takes a READ in.
+    pub fn fetch(&mut self, request: ReadReq) -> Verdict
+        ensures step { Meets result request.ticket self.old (side_read self.old.limits self.old.side (read_request request)) self.new }
+    {
+        level(&mut self.admit, &mut self.output);
+        let verdict = self.admit.fetch(request);
         self.admit.line_law();
         verdict
     }
