@@ -1,2 +1,3 @@
 pub mod Ring
 pub mod Taking
+pub mod Cells
