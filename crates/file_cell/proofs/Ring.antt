@@ -1,7 +1,7 @@
 -- What is in the ring.
-use Rattle.std.proofs.Common.{◌≡◌, ℕ, suc, ◌+◌, ◌<◌, ◌≤◌, ◌^◌, Some, List, [], ◌∷◌, ◌++◌, length, drop, slice_get, refl, sym, ◌∙◌, ap, subst, arith, append_assoc, length-append, length-drop}
+use Rattle.std.proofs.Common.{◌≡◌, ℕ, suc, ◌+◌, ◌<◌, ◌≤◌, ◌^◌, Some, List, [], ◌∷◌, ◌++◌, length, drop, slice_get, refl, sym, ◌∙◌, ap, subst, arith, append_assoc, append-nil, nat_eq, length-append, length-drop}
 use Rattle.std.proofs.Math.Seq.{drop-append_seam}
-use Rattle.gw_model.specs.File as model
+use Rattle.gw_model.specs.File.{is_empty}
 use Rattle.job_line.specs.declared.items.Job.{Job}
 use Rattle.job_line.specs.declared.items.Job.TheVariants.{Put, Compare, Fetch, Settle}
 use Rattle.job_line.specs.Items.{Fits, put_size, puts_size}
@@ -57,3 +57,12 @@ within base js (Put number bytes level count ticket) low fits = fits.1
 within base js (Compare offset bytes level ticket) low fits = omega (arith, low)
 within base js (Fetch offset count ticket) low fits = omega (arith, low)
 within base js (Settle ticket) low fits = omega (arith, low)
+
+pub empty_is : (X : Type 0) (xs : List X) → is_empty xs ≡ nat_eq (length xs) 0
+empty_is X [] = refl
+empty_is X (x ∷ xs) = grind arith
+
+-- nothing is left of it
+pub none_known : (n : ℕ) (taken known sent : List Job) → taken ++ known ≡ sent → drop (length taken) (model_jobs n sent) ≡ [] → sent ≡ taken
+none_known n taken [] sent is none = sym is ∙ append-nil taken
+none_known n taken (k ∷ known) sent is none = let e = sym (ring_is n taken (k ∷ known) sent is) ∙ none in cc

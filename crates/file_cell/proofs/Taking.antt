@@ -1,9 +1,9 @@
 -- The first job is taken off the line.
-use Rattle.std.proofs.Common.{◌≡◌, ℕ, ◌+◌, ◌<◌, ◌^◌, Option, Some, None, List, [], ◌∷◌, ◌++◌, length, drop, slice_get, sym, ◌∙◌, ap, subst, arith}
+use Rattle.std.proofs.Common.{◌≡◌, ℕ, ◌+◌, ◌<◌, ◌^◌, Option, Some, None, List, [], ◌∷◌, ◌++◌, length, drop, slice_get, refl, sym, ◌∙◌, ap, subst, arith}
 use Rattle.std.specs.Prelude.{IfSome, IfNone}
 use Rattle.gw_model.specs.File as model
 use Rattle.job_line.specs.Items.{Fits, base_of, put_size, puts_size}
-use Rattle.job_line.specs.Ends.{SameContextIn, SameContextOut, base_taken, jobs_sent, jobs_taken, line_slots, mark_sent, mark_taken}
+use Rattle.job_line.specs.Ends.{IsOneContext, SameContextIn, SameContextOut, base_taken, jobs_sent, jobs_taken, line_slots, mark_sent, mark_taken}
 use Rattle.job_line.specs.declared.items.Job.{Job}
 use Rattle.job_line.specs.declared.ends.LineIn.{LineIn}
 use Rattle.job_line.specs.declared.ends.LineOut.{LineOut}
@@ -11,8 +11,8 @@ use Rattle.admit.specs.Jobs.{model_job, model_jobs}
 use Rattle.admit.specs.Line.{sent_jobs}
 use Rattle.admit.specs.State.{AdmitState}
 use Rattle.file_cell.specs.State.{IntakeState, in_ring, intake_of, taken_end, with_line}
-use Rattle.file_cell.specs.Steps.{IsTaken}
-use Rattle.file_cell.proofs.Ring.{few_bytes, ring_first, taken-snoc, within}
+use Rattle.file_cell.specs.Steps.{IsLineOf, IsTaken}
+use Rattle.file_cell.proofs.Ring.{few_bytes, none_known, ring_first, taken-snoc, within}
 
 -- nothing was sent or taken
 ring_still : (i k : LineIn) (o p : LineOut) → mark_sent k ≡ mark_sent i → jobs_sent k ≡ jobs_sent i → jobs_taken p ≡ jobs_taken o → in_ring k p ≡ in_ring i o
@@ -71,3 +71,13 @@ end_within (Some j) p q mark taken fits none low =
     let end : taken_end q ≡ taken_end p + put_size j = ap (λ m. base_of m + puts_size (jobs_taken q)) mark ∙ ap (λ js. base_taken p + puts_size js) taken ∙ taken-snoc (base_taken p) (jobs_taken p) j in
     let most = within (base_taken p) (jobs_taken p) j low fits in
     omega (arith, end, most)
+
+-- Both ends are given back.
+pub gives_line : (b : AdmitState) (p : LineOut) (known : List Job) (old : IntakeState) → intake_of b p ≡ old → IsOneContext b.line p → jobs_taken p ++ known ≡ jobs_sent b.line → IsLineOf old b.line p
+gives_line b p known old same one is =
+    subst (λ (x : IntakeState). IsLineOf x b.line p) same (record {
+      one = one;
+      empty = λ none. none_known (base_of (mark_sent b.line)) (jobs_taken p) known (jobs_sent b.line) is none;
+      slots = refl;
+      begun = refl;
+    })

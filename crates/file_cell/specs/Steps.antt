@@ -1,7 +1,7 @@
 -- What the calls of an open file do.
-use Rattle.std.specs.Prelude.{◌≡◌, ℕ, ◌+◌, ◌^◌, ◌<◌, ◌≤◌, Bool, false, true, List, [], ◌∷◌, length, drop, Option}
+use Rattle.std.specs.Prelude.{◌≡◌, ℕ, ◌+◌, ◌^◌, ◌<◌, ◌≤◌, ◌&&◌, Bool, false, true, List, [], ◌∷◌, length, drop, map, Option, is_some}
 use Rattle.gw_model.specs.Ahead.{Ahead, refused}
-use Rattle.gw_model.specs.File.{Step, File, Side, Failure, is_stale}
+use Rattle.gw_model.specs.File.{Step, File, Side, Failure, is_empty, is_stale}
 use Rattle.gw_model.specs.declared.FileId.{FileId}
 use Rattle.gw_model.specs.declared.Hull.{Hull}
 use Rattle.gw_model.specs.declared.limits.Limits.{Limits}
@@ -9,13 +9,14 @@ use Rattle.gw_model.specs.Sides.{Told, Stands, side_opened, side_turn}
 use Rattle.gw_model.specs.Views.{Noted}
 use Rattle.tickets.specs.Desk.{TicketId}
 use Rattle.job_line.specs.Items.{put_size}
-use Rattle.job_line.specs.Ends.{IsOneContext, SameLineIn, SameLineOut, jobs_sent, jobs_taken}
+use Rattle.job_line.specs.Ends.{IsOneContext, SameLineIn, SameLineOut, jobs_sent, jobs_taken, line_slots}
 use Rattle.job_line.specs.declared.ends.LineIn.{LineIn}
 use Rattle.job_line.specs.declared.ends.LineOut.{LineOut}
 use Rattle.job_line.specs.declared.items.Job.{Job}
 use Rattle.admit.specs.Answers.{IsPlain}
 use Rattle.admit.specs.Calls.{ahead_after, answers_of}
 use Rattle.admit.specs.Jobs.{model_job}
+use Rattle.admit.specs.Parts.{line_of}
 use Rattle.admit.specs.declared.request.Verdict.{Verdict}
 use Rattle.admit.specs.declared.request.Verdict.TheVariants.{Reply, Held, Dropped, NoMemory}
 use Rattle.admit.specs.declared.request.Pumped.{Pumped}
@@ -24,6 +25,7 @@ use Rattle.writeback.specs.Answers.{size_of}
 use Rattle.writeback.specs.State.{FileSeen, WriterState, fresh}
 use Rattle.writeback.specs.Steps.{Works}
 use Rattle.file_cell.specs.State.{IntakeState, CellState, with_line}
+use Rattle.file_cell.specs.declared.closed.Ended.{Ended}
 use Rattle.file_cell.specs.declared.cell.Stepped.{Stepped}
 use Rattle.file_cell.specs.declared.cell.Stepped.TheVariants.{SyncFirst, Nothing, Did}
 
@@ -114,3 +116,33 @@ abbrev pub IsStepped : Type 0 → Stepped → CellState → CellState → Noted 
 IsStepped tells SyncFirst old new noted noted' = (1024 ≤ length old.writer.owed) × (new ≡ old) × (noted' ≡ noted)
 IsStepped tells Nothing old new noted noted' = (length old.writer.owed < 1024) × (old.side.held.line ≡ []) × (new ≡ old) × (noted' ≡ noted)
 IsStepped tells Did old new noted noted' = Turns tells old new noted noted'
+
+-- the end
+
+-- nothing is pending, ready, waiting or in the line
+abbrev pub is_quiet : Side → Bool
+is_quiet s = is_empty s.seen.pending && is_empty s.held.ready && is_empty s.held.waiting && is_empty s.held.line
+
+-- and nothing waits for a sync
+abbrev pub is_idle : CellState → Bool
+is_idle c = is_quiet c.side && is_empty c.writer.owed
+
+-- Both ends of the line, on which a next context may begin where nothing was in it.
+pub record IsLineOf (s : IntakeState) (i : LineIn) (o : LineOut) : Type 0 where
+  pub one : IsOneContext i o
+  pub empty : s.side.held.line ≡ [] → jobs_sent i ≡ jobs_taken o
+  pub slots : line_slots i ≡ s.slots
+  pub begun : i.begun ≡ s.begun
+
+abbrev pub IsLineBack : CellState → LineIn → LineOut → Type 0
+IsLineBack c i o = IsOneContext i o × (c.side.held.line ≡ [] → jobs_sent i ≡ jobs_taken o) × (line_slots i ≡ c.slots) × (i.begun ≡ c.begun)
+
+-- what the history of a cell is written from
+pub record IsEnded (c : CellState) (e : Ended) : Type 0 where
+  pub id : e.id ≡ c.id
+  pub base : e.base ≡ c.base
+  pub history : map line_of e.history.items ≡ c.side.seen.entries
+  pub reach : e.reach ≡ c.side.seen.reach
+  pub stored : e.stored ≡ c.writer.stored
+  pub synced : e.synced ≡ c.writer.synced
+  pub failed : e.failed ≡ is_some c.writer.failed

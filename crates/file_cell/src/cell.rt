@@ -6,8 +6,9 @@ ghost use Rattle.admit.specs.Calls.{failure_of as heard_failure, news_of, read_r
 ghost use Rattle.admit.specs.Leaving.{Hands};
 ghost use Rattle.writeback.specs.State.{failure_of};
 ghost use Rattle.job_line.specs.Ends.{IsOneContext, jobs_sent, jobs_taken, line_slots};
-ghost use Rattle.file_cell.specs.Steps.{IsBack, IsPumped, IsStepped, Tells, fresh_cell, pumped};
+ghost use Rattle.file_cell.specs.Steps.{IsBack, IsPumped, IsStepped, IsEnded, IsLineBack, Tells, fresh_cell, is_idle, pumped};
 
+use crate::closed::{Closed, Ended};
 use crate::intake::Intake;
 use admit::{Failed, News, Pumped, ReadReq, Verdict, WriteReq};
 use append_store::AppendFile;
@@ -162,5 +163,70 @@ impl<F: AppendFile, M: PendingMap> FileCell<F, M> {
             return Some(answer);
         }
         self.intake.next_answer()
+    }
+
+    /// The length up to which the accepted writes have left no hole.
+    pub fn reach(&self) -> u64
+        ensures { result ≡ self.now.side.seen.reach }
+    {
+        self.intake.reach()
+    }
+
+    /// The moment of the last accepted write.
+    pub fn changed(&self) -> Option<u64>
+        ensures { result ≡ self.now.side.held.changed }
+    {
+        self.intake.changed()
+    }
+
+    /// Whether nothing is pending, ready, waiting, in the line or waiting for a sync.
+    pub fn is_idle(&mut self) -> bool
+        ensures idle { result ≡ is_idle self.old }
+        ensures same { self.new ≡ self.old }
+    {
+        let quiet = self.intake.is_empty();
+        quiet && self.writer.waiting() == 0
+    }
+
+    /// Gives the parts of a file back, without a call on its body.
+    pub fn into_parts(self) -> Closed<F>
+        requires none_left { self.left ≡ [] }
+        requires none_waits { self.writer.owed ≡ [] }
+        ensures body { record { object = F.mark result.body; content = F.content result.body; durable = F.durable result.body; faults = F.count result.body } ≡ self.file }
+        ensures line { IsLineBack self result.line.0 result.line.1 }
+        ensures stored { result.stored ≡ self.writer.stored }
+        ensures hull { result.hull ≡ self.side.held.hull }
+        ensures changed { result.changed ≡ self.side.held.changed }
+        ensures ended { IsEnded self result.ended }
+    {
+        let FileCell {
+            id,
+            base,
+            intake,
+            writer,
+            turned: _,
+        } = self;
+        let hull = intake.hull();
+        let changed = intake.changed();
+        let reach = intake.reach();
+        let (input, output, history) = intake.into_parts();
+        let stored = writer.stored();
+        let ended = Ended {
+            id,
+            base,
+            history,
+            reach,
+            stored,
+            synced: writer.synced(),
+            failed: writer.failed().is_some(),
+        };
+        Closed {
+            body: writer.into_file(),
+            line: (input, output),
+            stored,
+            hull,
+            changed,
+            ended,
+        }
     }
 }

@@ -1,13 +1,14 @@
 // The admission side of an open file, with both ends of its line.
-ghost use Rattle.std.specs.Prelude.{◌≡◌, ◌+◌, ◌<◌, ◌≤◌, ◌^◌, ◌-◌, ◌++◌, [], IfErr, IfOk, IfSome, IfNone, length};
+ghost use Rattle.std.specs.Prelude.{◌≡◌, ◌+◌, ◌<◌, ◌≤◌, ◌^◌, ◌-◌, ◌++◌, [], IfErr, IfOk, IfSome, IfNone, length, map};
 ghost use Rattle.gw_model.specs.Sides.{side_opened, side_pump, side_read, side_write};
 ghost use Rattle.job_line.specs.Ends.{IsOneContext, SameContextIn, SameContextOut, SameLineIn, SameLineOut, jobs_known, jobs_sent, jobs_taken, line_slots, mark_sent, mark_taken};
 ghost use Rattle.admit.specs.Calls.{news_of, read_request, write_request};
 ghost use Rattle.admit.specs.Leaving.{Hands};
+ghost use Rattle.admit.specs.Parts.{line_of};
 ghost use Rattle.file_cell.specs.State.{in_ring, taken_end, with_line};
-ghost use Rattle.file_cell.specs.Steps.{IsBack, IsPumped, IsTaken, Meets};
+ghost use Rattle.file_cell.specs.Steps.{IsBack, IsLineOf, IsPumped, IsTaken, Meets, is_quiet};
 
-use admit::{Admit, News, Pumped, ReadReq, Verdict, WriteReq};
+use admit::{Admit, HistoryEntry, News, Pumped, ReadReq, Verdict, WriteReq};
 use gw_model::{FileId, Hull, Limits};
 use job_line::{Job, LineIn, LineOut, begin};
 use range_map::PendingMap;
@@ -133,5 +134,51 @@ impl<M: PendingMap> Intake<M> {
         ensures rest { self.new ≡ record self.old { left = self.new.left } }
     {
         self.admit.next_answer()
+    }
+
+    /// The length up to which the accepted writes have left no hole.
+    pub fn reach(&self) -> u64
+        ensures { result ≡ self.now.side.seen.reach }
+    {
+        self.admit.reach()
+    }
+
+    /// The moment of the last accepted write.
+    pub fn changed(&self) -> Option<u64>
+        ensures { result ≡ self.now.side.held.changed }
+    {
+        self.admit.changed()
+    }
+
+    /// The range in which answered writes may be lost.
+    pub fn hull(&self) -> Option<Hull>
+        ensures { result ≡ self.now.side.held.hull }
+    {
+        self.admit.hull()
+    }
+
+    /// Whether nothing is pending, ready, waiting or in the line.
+    #[tactic(auto, using(crate::proofs::Ring::empty_is))]
+    pub fn is_empty(&mut self) -> bool
+        ensures empty { result ≡ is_quiet self.old.side }
+        ensures same { self.new ≡ self.old }
+    {
+        let count = level(&mut self.admit, &mut self.output);
+        self.admit.is_empty() && count == 0
+    }
+
+    /// Gives back both ends of the line and the history.
+    pub fn into_parts(self) -> (LineIn, LineOut, Vec<HistoryEntry>)
+        requires none_left { self.left ≡ [] }
+        ensures line { IsLineOf self result.0 result.1 }
+        ensures history { map line_of result.2.items ≡ self.side.seen.entries }
+    {
+        let Intake {
+            mut admit,
+            mut output,
+        } = self;
+        level(&mut admit, &mut output);
+        let (input, history) = admit.into_parts();
+        (input, output, history)
     }
 }

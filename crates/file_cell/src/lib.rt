@@ -2,6 +2,8 @@
 #![tactic(auto)]
 
 mod cell;
+mod closed;
 mod intake;
 
 pub use cell::{FileCell, Stepped};
+pub use closed::{Closed, Ended};
