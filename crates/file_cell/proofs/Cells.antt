@@ -13,24 +13,8 @@ use Rattle.writeback.specs.State.{WriterState}
 use Rattle.writeback.specs.Steps.{Works}
 use Rattle.file_cell.specs.State.{CellState, IntakeState, cell_of, with_line}
 use Rattle.file_cell.specs.Steps.{IsTaken, Turns, pumped, takes, writer_of}
-
-first_none : {X : Type 0} (xs ys : List X) → xs ++ ys ≡ [] → xs ≡ []
-first_none [] ys is = refl
-first_none (x ∷ xs) ys is = cc
-
-second_none : {X : Type 0} (xs ys : List X) → xs ++ ys ≡ [] → ys ≡ []
-second_none [] ys is = is
-second_none (x ∷ xs) ys is = cc
-
--- where a call left no answer, no part has one
-pub none_turned : (id : FileId) (base : ℕ) (intake : IntakeState) (writer : WriterState) (turned : Option Answer) (old : CellState) → cell_of id base intake writer turned ≡ old → old.left ≡ [] → answers_of turned ≡ []
-none_turned id base intake writer turned old is none = first_none (answers_of turned) writer.left (first_none (answers_of turned ++ writer.left) intake.left (ap (λ (c : CellState). c.left) is ∙ none))
-
-pub none_synced : (id : FileId) (base : ℕ) (intake : IntakeState) (writer : WriterState) (turned : Option Answer) (old : CellState) → cell_of id base intake writer turned ≡ old → old.left ≡ [] → writer.left ≡ []
-none_synced id base intake writer turned old is none = second_none (answers_of turned) writer.left (first_none (answers_of turned ++ writer.left) intake.left (ap (λ (c : CellState). c.left) is ∙ none))
-
-pub none_pumped : (id : FileId) (base : ℕ) (intake : IntakeState) (writer : WriterState) (turned : Option Answer) (old : CellState) → cell_of id base intake writer turned ≡ old → old.left ≡ [] → intake.left ≡ []
-none_pumped id base intake writer turned old is none = second_none (answers_of turned ++ writer.left) intake.left (ap (λ (c : CellState). c.left) is ∙ none)
+use Rattle.file_cell.proofs.None.{none_pumped, none_synced, none_turned}
+use Rattle.file_cell.proofs.Standing.{turn_stands}
 
 -- a pump
 pub pumps : (id : FileId) (base : ℕ) (intake new : IntakeState) (writer : WriterState) (turned : Option Answer) (old : CellState) (news : Option Failure) → cell_of id base intake writer turned ≡ old → old.left ≡ [] → news ≡ writer.writer.failed
@@ -66,11 +50,13 @@ turns tells id base intake new writer after turned answered old j noted noted' i
     let works3 = subst (λ xs. Works tells j all (record writer { left = [] }) (record after { left = xs }) noted noted') last works2 in
     let shown : Side → IntakeState → CellState =
       λ s i. record { id = id; base = base; side = s; limits = i.limits; writer = after.writer; file = after.file; left = all; slots = i.slots; begun = i.begun } in
+    let moved = ap (λ (i : IntakeState). shown i.side i) taken.after ∙ ap (λ s. shown s intake) (turned_side (length writer.writer.owed) intake.side room) in
     subst (λ (c : CellState). Turns tells c (cell_of id base new after answered) noted noted') is (record {
       job = j;
       start = intake.taken;
       room = low;
       first = taken.first;
       works = works3;
-      rest = ap (λ (i : IntakeState). shown i.side i) taken.after ∙ ap (λ s. shown s intake) (turned_side (length writer.writer.owed) intake.side room);
+      stands = turn_stands tells (cell_of id base intake writer turned) (cell_of id base new after answered) noted noted' j intake.taken low taken.first works3 (ap (λ (c : CellState). c.side) moved);
+      rest = moved;
     })

@@ -1,11 +1,10 @@
 -- What the calls of an open file do.
 use Rattle.std.specs.Prelude.{◌≡◌, ℕ, ◌+◌, ◌^◌, ◌<◌, ◌≤◌, ◌&&◌, Bool, false, true, List, [], ◌∷◌, length, drop, map, Option, is_some}
-use Rattle.gw_model.specs.Ahead.{Ahead, refused}
-use Rattle.gw_model.specs.File.{Step, File, Side, Failure, is_empty, is_stale}
+use Rattle.gw_model.specs.File.{Side, is_empty, is_stale}
 use Rattle.gw_model.specs.declared.FileId.{FileId}
 use Rattle.gw_model.specs.declared.Hull.{Hull}
 use Rattle.gw_model.specs.declared.limits.Limits.{Limits}
-use Rattle.gw_model.specs.Sides.{Told, Stands, side_opened, side_turn}
+use Rattle.gw_model.specs.Sides.{Told, side_opened, side_turn}
 use Rattle.gw_model.specs.Views.{Noted}
 use Rattle.tickets.specs.Desk.{TicketId}
 use Rattle.job_line.specs.Items.{put_size}
@@ -14,7 +13,7 @@ use Rattle.job_line.specs.declared.ends.LineIn.{LineIn}
 use Rattle.job_line.specs.declared.ends.LineOut.{LineOut}
 use Rattle.job_line.specs.declared.items.Job.{Job}
 use Rattle.admit.specs.Answers.{IsPlain}
-use Rattle.admit.specs.Calls.{ahead_after, answers_of}
+use Rattle.admit.specs.Calls.{answers_of}
 use Rattle.admit.specs.Jobs.{model_job}
 use Rattle.admit.specs.Parts.{line_of}
 use Rattle.admit.specs.declared.request.Verdict.{Verdict}
@@ -24,6 +23,7 @@ use Rattle.admit.specs.declared.request.Pumped.TheVariants.{Sent, TurnedStale}
 use Rattle.writeback.specs.Answers.{size_of}
 use Rattle.writeback.specs.State.{FileSeen, WriterState, fresh}
 use Rattle.writeback.specs.Steps.{Works}
+use Rattle.file_cell.specs.Files.{TurnsFor}
 use Rattle.file_cell.specs.State.{IntakeState, CellState, with_line}
 use Rattle.file_cell.specs.declared.closed.Ended.{Ended}
 use Rattle.file_cell.specs.declared.cell.Stepped.{Stepped}
@@ -69,10 +69,6 @@ Meets v asker old told new = TellsBy v asker told (new ≡ old) (new ≡ record 
 abbrev pub Tells : Verdict → TicketId → CellState → Told → CellState → Type 0
 Tells v asker old told new = TellsBy v asker told (new ≡ old) (new ≡ record old { side = told.side })
 
--- the side stands for the file after a step, and the answers and outcomes are the step's
-abbrev pub Goes : Verdict → Ahead → Step → Side → Type 0
-Goes v t step side = Stands side step.file × (step.answers ≡ answers_of v) × (step.ahead ≡ ahead_after v t)
-
 -- the line
 
 -- the first job is taken off the line
@@ -108,6 +104,7 @@ pub record Turns (tells : Type 0) (old new : CellState) (noted noted' : Noted) :
   pub room : length old.writer.owed < 1024
   pub first : old.side.held.line ≡ model_job start job ∷ drop 1 old.side.held.line
   pub works : Works tells job new.left (writer_of old) (writer_of new) noted noted'
+  pub stands : TurnsFor tells job works.calls old new
   pub rest : new ≡ record old { side = side_turn (length old.writer.owed) old.side; writer = new.writer; file = new.file; left = new.left }
 
 -- A sync comes first exactly where 1,024 tickets wait for one, and else there is nothing to do exactly where the line is

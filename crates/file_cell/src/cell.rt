@@ -6,6 +6,7 @@ ghost use Rattle.admit.specs.Calls.{failure_of as heard_failure, news_of, read_r
 ghost use Rattle.admit.specs.Leaving.{Hands};
 ghost use Rattle.writeback.specs.State.{failure_of};
 ghost use Rattle.job_line.specs.Ends.{IsOneContext, jobs_sent, jobs_taken, line_slots};
+ghost use Rattle.file_cell.specs.Files.{Fetches, Pumps, Writes};
 ghost use Rattle.file_cell.specs.Steps.{IsBack, IsPumped, IsStepped, IsEnded, IsLineBack, Tells, fresh_cell, is_idle, pumped};
 
 use crate::closed::{Closed, Ended};
@@ -112,6 +113,7 @@ impl<F: AppendFile, M: PendingMap> FileCell<F, M> {
         requires fits { request.offset + length request.bytes < 2 ^ 63 }
         requires count { length request.bytes ≤ 1048576 }
         ensures step { Tells result request.ticket self.old (side_write self.old.limits self.old.side (write_request request)) self.new }
+        ensures stands { Writes result self.old request self.new }
     {
         self.intake.receive(request)
     }
@@ -119,6 +121,7 @@ impl<F: AppendFile, M: PendingMap> FileCell<F, M> {
     /// Holds a READ, or answers that the ready list has no room. Takes memory.
     pub fn read(&mut self, request: ReadReq) -> Verdict
         ensures step { Tells result request.ticket self.old (side_read self.old.limits self.old.side (read_request request)) self.new }
+        ensures stands { Fetches result self.old request self.new }
     {
         self.intake.fetch(request)
     }
@@ -145,6 +148,7 @@ impl<F: AppendFile, M: PendingMap> FileCell<F, M> {
     pub fn pump_step(&mut self) -> Pumped
         requires none_left { self.old.left ≡ [] }
         ensures step { self.new ≡ pumped (side_pump self.old.limits self.old.writer.failed self.old.side) self.old }
+        ensures stands { Pumps self.old self.new }
         ensures pumped { IsPumped result self.old.side self.new.side }
     {
         let news = news(&self.writer);

@@ -4,6 +4,8 @@
 mod cell;
 mod closed;
 mod intake;
+mod laws;
 
 pub use cell::{FileCell, Stepped};
 pub use closed::{Closed, Ended};
+pub use laws::cell_laws;

@@ -1,4 +1,4 @@
-use Rattle.file_cell.proofs.Cells.{none_pumped, none_synced}
+use Rattle.file_cell.proofs.None.{none_pumped, none_synced}
 use Rattle.file_cell.proofs.cell.FileCell.into_parts.Goals as goal
 
 pub into_parts-input-requires : goal.into_parts-input-requires

@@ -1,5 +1,6 @@
 use Rattle.std.proofs.Common.{◌≡◌, ◌<◌, true, nat_lt, length, sym, ◌∙◌, arith}
-use Rattle.file_cell.proofs.Cells.{none_synced, turns}
+use Rattle.file_cell.proofs.Cells.{turns}
+use Rattle.file_cell.proofs.None.{none_synced}
 use Rattle.file_cell.proofs.cell.FileCell.write_step.Goals as goal
 
 pub turn-requires-clause-none_left : goal.turn-requires-clause-none_left
