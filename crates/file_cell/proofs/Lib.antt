@@ -1,0 +1,5 @@
+pub mod Ring
+pub mod Taking
+pub mod None
+pub mod Standing
+pub mod Cells
