@@ -7,3 +7,6 @@ mod intake;
 
 pub use cell::{FileCell, Stepped};
 pub use closed::{Closed, Ended};
+
+#[cfg(test)]
+mod tests;
