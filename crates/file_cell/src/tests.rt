@@ -46,8 +46,9 @@ enum Met {
 }
 
 fn said(answer: Answer) -> Met {
-    let xid = answer.ticket.xid();
-    match answer.body {
+    let Answer { ticket, body } = answer;
+    let xid = ticket.xid();
+    match body {
         Body::Write {
             status: 0,
             count,
@@ -141,7 +142,10 @@ fn answered<F: AppendFile>(cell: &mut FileCell<F, SortedVecMap>) -> Result<Optio
     let first = cell.next_answer();
     match cell.next_answer() {
         Some(_) => Err("two answers".into()),
-        None => Ok(first.map(said)),
+        None => match first {
+            Some(answer) => Ok(Some(said(answer))),
+            None => Ok(None),
+        },
     }
 }
 
