@@ -23,7 +23,7 @@ pub pumps : (id : FileId) (base : ℕ) (intake new : IntakeState) (writer : Writ
 pumps id base intake new writer turned old news is none heard step =
     let told : Option Failure → Told = λ n. side_pump intake.limits n intake.side in
     let shown : List model.Answer → List model.Answer → Told → CellState =
-      λ xs ys t. record (cell_of id base intake writer turned) { side = t.side; left = xs ++ ys ++ t.answers } in
+    λ xs ys t. record (cell_of id base intake writer turned) { side = t.side; left = xs ++ ys ++ t.answers } in
     let start : cell_of id base new writer turned ≡ shown (answers_of turned) writer.left (told news) = ap (λ (i : IntakeState). cell_of id base i writer turned) step in
     start
     ∙ ap (λ xs. shown xs writer.left (told news)) (none_turned id base intake writer turned old is none)
@@ -43,13 +43,13 @@ turns tells id base intake new writer after turned answered old j noted noted' i
     let last : after.left ≡ [] = works.left ∙ before in
     let rest : new.left ≡ [] = ap (λ (i : IntakeState). i.left) taken.after ∙ none_pumped id base intake writer turned old is none in
     let said : answers_of answered ≡ answers_of answered ++ after.left ++ new.left =
-      sym (ap (λ xs. answers_of answered ++ xs ++ new.left) last ∙ ap (λ xs. answers_of answered ++ [] ++ xs) rest ∙ append-nil (answers_of answered ++ []) ∙ append-nil (answers_of answered)) in
+    sym (ap (λ xs. answers_of answered ++ xs ++ new.left) last ∙ ap (λ xs. answers_of answered ++ [] ++ xs) rest ∙ append-nil (answers_of answered ++ []) ∙ append-nil (answers_of answered)) in
     let all = answers_of answered ++ after.left ++ new.left in
     let works1 = subst (λ xs. Works tells j xs writer after noted noted') said works in
     let works2 = subst (λ xs. Works tells j all (record writer { left = xs }) after noted noted') before works1 in
     let works3 = subst (λ xs. Works tells j all (record writer { left = [] }) (record after { left = xs }) noted noted') last works2 in
     let shown : Side → IntakeState → CellState =
-      λ s i. record { id = id; base = base; side = s; limits = i.limits; writer = after.writer; file = after.file; left = all; slots = i.slots; begun = i.begun } in
+    λ s i. record { id = id; base = base; side = s; limits = i.limits; writer = after.writer; file = after.file; left = all; slots = i.slots; begun = i.begun } in
     let moved = ap (λ (i : IntakeState). shown i.side i) taken.after ∙ ap (λ s. shown s intake) (turned_side (length writer.writer.owed) intake.side room) in
     subst (λ (c : CellState). Turns tells c (cell_of id base new after answered) noted noted') is (record {
       job = j;

@@ -39,7 +39,7 @@ ring_first n taken [] sent j is first = cc
 ring_first n taken (k ∷ known) sent j is first =
     let same : k ≡ j = cc in
     let at : model_jobs (n + puts_size taken) (k ∷ known) ≡ model_job (n + puts_size taken) j ∷ model_jobs (n + puts_size taken + put_size j) known =
-      ap (λ (i : Job). model_job (n + puts_size taken) i ∷ model_jobs (n + puts_size taken + put_size i) known) same in
+    ap (λ (i : Job). model_job (n + puts_size taken) i ∷ model_jobs (n + puts_size taken + put_size i) known) same in
     let rest : (taken ++ j ∷ []) ++ known ≡ sent = append_assoc taken (j ∷ []) known ∙ ap (λ (i : Job). taken ++ i ∷ known) (sym same) ∙ is in
     ring_is n taken (k ∷ known) sent is ∙ at
     ∙ ap (λ m. model_job (n + puts_size taken) j ∷ model_jobs m known) (sym (taken-snoc n taken j))

@@ -123,7 +123,7 @@ turn_stands tells old new noted noted' job start low first x moved f t h reads m
     let at = starts f job start js h.issued h.stored line in
     let next = subst (λ (w : Writer). IsNext w at.0) (sym h.writer) at.1 in
     let did : do_job j all f.writer u ≡ told new.writer new.left rest =
-      ap (λ k. do_job k all f.writer u) (sym at.2) ∙ ap (λ (w : Writer). do_job (job_of at.0 None job) all w u) (sym h.writer) ∙ x.next at.0 None next all reads t memory in
+    ap (λ k. do_job k all f.writer u) (sym at.2) ∙ ap (λ (w : Writer). do_job (job_of at.0 None job) all w u) (sym h.writer) ∙ x.next at.0 None next all reads t memory in
     let few : length f.writer.owed < 1024 = subst (λ (w : Writer). length w.owed < 1024) h.writer low in
     let free : nat_lt (length f.writer.owed) room ≡ true = grind (arith, few) in
     let is = turn_is f u j js free line ∙ ap (turned f j js) did in
@@ -175,4 +175,4 @@ pumps news id base i n w answered old is none heard on =
     let ys = none_synced id base i w answered old is none in
     let left : n.left ≡ answers_of answered ++ w.left ++ n.left = sym (ap (λ zs. zs ++ w.left ++ n.left) xs ∙ ap (λ zs. [] ++ zs ++ n.left) ys) in
     subst (λ (c : CellState). Pumps c (cell_of id base n w answered)) is
-      (pumps_still news (cell_of id base i w answered) (cell_of id base n w answered) heard refl (subst (λ zs. PumpsOn i.limits news i.side n.side zs) left on))
+    (pumps_still news (cell_of id base i w answered) (cell_of id base n w answered) heard refl (subst (λ zs. PumpsOn i.limits news i.side n.side zs) left on))

@@ -173,7 +173,10 @@ fn writes_in_reverse_order(rt: HostRuntime) -> Result<(), Fail> {
     let mut desk = ReplyDesk::new(alloc);
     let mut cluster = MemCluster::new(alloc, Vec::new(alloc));
     let mut cell = opened(alloc, &mut cluster, 8, 100000)?;
-    assert_eq!(rt; write(&mut cell, &mut desk, 1, 5, b"fghij")?, Met::Wrote(1, 5));
+    assert_eq!(rt;
+        write(&mut cell, &mut desk, 1, 5, b"fghij")?,
+        Met::Wrote(1, 5)
+    );
     assert_eq!(rt; (cell.reach(), cell.changed()), (0, Some(0)));
     assert_eq!(rt; write(&mut cell, &mut desk, 2, 0, b"abcde")?, Met::Held);
     assert_eq!(rt; (cell.reach(), cell.is_idle()), (10, false));
@@ -195,8 +198,14 @@ fn ready_cap_and_one_slot(rt: HostRuntime) -> Result<(), Fail> {
     let mut cell = opened(alloc, &mut cluster, 1, 1025)?;
     assert_eq!(rt; write(&mut cell, &mut desk, 1, 0, b"a")?, Met::Held);
     assert_eq!(rt; write(&mut cell, &mut desk, 2, 1, b"b")?, Met::Held);
-    assert_eq!(rt; write(&mut cell, &mut desk, 3, 2, b"c")?, Met::Refused(3, 10008));
-    assert_eq!(rt; write(&mut cell, &mut desk, 4, 0, b"a")?, Met::Refused(4, 10008));
+    assert_eq!(rt;
+        write(&mut cell, &mut desk, 3, 2, b"c")?,
+        Met::Refused(3, 10008)
+    );
+    assert_eq!(rt;
+        write(&mut cell, &mut desk, 4, 0, b"a")?,
+        Met::Refused(4, 10008)
+    );
     assert_eq!(rt; read(&mut cell, &mut desk, 5, 1)?, Met::Refused(5, 10008));
     assert_eq!(rt; stepped(alloc, &mut cell)?, Some(Met::Wrote(1, 1)));
     assert_eq!(rt; stepped(alloc, &mut cell)?, None);

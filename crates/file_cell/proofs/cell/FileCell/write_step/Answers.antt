@@ -13,5 +13,7 @@ returns g c =
     let s = c.self.inside in
     let room : nat_lt (length s.writer.writer.owed) 1024 ≡ true = grind (arith, c.room.ensures, c.if-not-room.false) in
     let low : length s.writer.writer.owed < 1024 = grind (arith, c.room.ensures, c.if-not-room.false) in
-    record { step = turns g.F.AppendFile.tells s.id s.base s.intake c.take.new.self s.writer c.turn.new.self s.turned c.turn.result c.args.self.now c.in-Some.job c.args.trace.now c.turn.new.trace
-      c.self.view_is c.requires.none_left room low c.in-Some.ensures.taken c.turn.ensures.works }
+    record {
+      step = turns g.F.AppendFile.tells s.id s.base s.intake c.take.new.self s.writer c.turn.new.self s.turned c.turn.result c.args.self.now c.in-Some.job c.args.trace.now c.turn.new.trace
+          c.self.view_is c.requires.none_left room low c.in-Some.ensures.taken c.turn.ensures.works;
+    }
