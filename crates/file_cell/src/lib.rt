@@ -9,6 +9,3 @@ mod laws;
 pub use cell::{FileCell, Stepped};
 pub use closed::{Closed, Ended};
 pub use laws::cell_laws;
-
-#[cfg(test)]
-mod tests;
