@@ -9,3 +9,6 @@ mod laws;
 pub use cell::{FileCell, Stepped};
 pub use closed::{Closed, Ended};
 pub use laws::cell_laws;
+
+#[cfg(test)]
+mod tests;
