@@ -1,7 +1,7 @@
 -- What a run writes and stores, by the bytes of the transcript and the outcomes of the store's calls.
 use Rattle.std.specs.Prelude.{◌≡◌, ◌≢◌, ℕ, ◌+◌, ◌-◌, ◌^◌, ◌≤◌, min, Bool, true, false, List, [], ◌∷◌, ◌++◌, map, length, codes, Option, Some, None, unwrap_or}
 use Rattle.std.specs.Io.KnownBytes.{Consumes, Appends}
-use Rattle.gw_model.specs.Ahead.{Ahead, Outcome, Done, Failed, Called, Good, Bad}
+use Rattle.gw_model.specs.Ahead.{Ahead, Outcome, Done, Failed, Listed, NoMemory as Refusal, Called, Good, Bad}
 use Rattle.transcript.specs.Script.{Script, script as script_by, AtEnd, AtOpen}
 use Rattle.transcript.specs.Writing.{IsPrefix}
 use Rattle.nfsgw.specs.Grammar.{read}
@@ -23,60 +23,67 @@ pub record Outside : Type 0 where
   pub body : List ℕ
   pub faults : ℕ
 
--- what went in and out in a run, and what the calls on the store came to, in order
+-- what went in and out in a run, and in order what the calls on the store came to and where memory was refused
 pub record Traffic : Type 0 where
   pub taken : List ℕ
   pub written : List ℕ
   pub put : List ℕ
-  pub calls : List Called
+  pub outcomes : List Outcome
 
-abbrev pub failed_count : List Called → ℕ
+abbrev pub failed_count : List Outcome → ℕ
 failed_count [] = 0
-failed_count (Good ∷ calls) = failed_count calls
-failed_count (Bad kept ∷ calls) = failed_count calls + 1
+failed_count (Failed kept ∷ outcomes) = failed_count outcomes + 1
+failed_count (Done ∷ outcomes) = failed_count outcomes
+failed_count (Listed objects ∷ outcomes) = failed_count outcomes
+failed_count (Refusal event request ∷ outcomes) = failed_count outcomes
 
 -- the count rose by at least as many as failed, or stands at its last value
-abbrev pub Fails : List Called → ℕ → ℕ → Type 0
-Fails calls before now = min (before + failed_count calls) (2 ^ 64 - 1) ≤ now
+abbrev pub Fails : List Outcome → ℕ → ℕ → Type 0
+Fails outcomes before now = min (before + failed_count outcomes) (2 ^ 64 - 1) ≤ now
 
 -- Where the store tells what it holds, the body grew by what was put.
 pub record Moves (tells : Type 0) (before after : Outside) (traffic : Traffic) : Type 0 where
   pub reads : Consumes before.left after.left traffic.taken
   pub writes : Appends before.held after.held traffic.written
   pub puts : tells → after.body ≡ before.body ++ traffic.put
-  pub fails : Fails traffic.calls before.faults after.faults
+  pub fails : Fails traffic.outcomes before.faults after.faults
 
 abbrev pub outcome_of : Called → Outcome
 outcome_of Good = Done
 outcome_of (Bad kept) = Failed kept
 
--- the outcomes that a run uses up
-abbrev pub ahead_of : List Called → Ahead
-ahead_of calls = record { left = map outcome_of calls; event = 0; request = 0; astray = false }
+-- the outcomes that a run uses up, before its first event
+abbrev pub ahead_of : List Outcome → Ahead
+ahead_of outcomes = record { left = outcomes; event = 0; request = 0; astray = false }
+
+-- no outcome is left, and none was wanting
+pub record IsUsedUp (t : Ahead) : Type 0 where
+  pub left : t.left ≡ []
+  pub astray : t.astray ≡ false
 
 abbrev pub script : List ℕ → Script Event
 script bytes = script_by read true bytes
 
 -- all that comes of a transcript, over a body that holds these bytes at first
-abbrev pub output : List ℕ → List ℕ → List Called → Told
-output body bytes calls = told_of (start body) (acts_of no_links (script bytes).events) (ahead_of calls)
+abbrev pub output : List ℕ → List ℕ → List Outcome → Told
+output body bytes outcomes = told_of (start body) (acts_of no_links (script bytes).events) (ahead_of outcomes)
 
--- Just this went out, the body holds what the definition says, and the calls are used up.
+-- Just this went out, the body holds what the definition says, and the outcomes are used up.
 pub record IsWhole (body bytes : List ℕ) (stopped : Bool) (traffic : Traffic) : Type 0 where
-  pub text : (output body bytes traffic.calls).text ≡ traffic.written
-  pub content : (output body bytes traffic.calls).body ≡ body ++ traffic.put
-  pub stop : (output body bytes traffic.calls).stopped ≡ stopped
-  pub ahead : (output body bytes traffic.calls).ahead ≡ ahead_of []
+  pub text : (output body bytes traffic.outcomes).text ≡ traffic.written
+  pub content : (output body bytes traffic.outcomes).body ≡ body ++ traffic.put
+  pub stop : (output body bytes traffic.outcomes).stopped ≡ stopped
+  pub used : IsUsedUp (output body bytes traffic.outcomes).ahead
 
 -- A front of it went out, whatever later calls would have come to.
 abbrev pub IsFront : List ℕ → Traffic → Told → Type 0
 IsFront body traffic told = IsPrefix traffic.written told.text × IsPrefix (body ++ traffic.put) told.body
 
 abbrev pub IsShort : List ℕ → List ℕ → Traffic → Type 0
-IsShort body bytes traffic = (later : List Called) → IsFront body traffic (output body bytes (traffic.calls ++ later))
+IsShort body bytes traffic = (later : List Called) → IsFront body traffic (output body bytes (traffic.outcomes ++ map outcome_of later))
 
 abbrev pub nothing : Traffic
-nothing = record { taken = []; written = []; put = []; calls = [] }
+nothing = record { taken = []; written = []; put = []; outcomes = [] }
 
 -- How far the transcript was read, by the status. `whole` is what was taken and what the source has left.
 abbrev pub IsRead : Status → List ℕ → Traffic → Type 0

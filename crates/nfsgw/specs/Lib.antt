@@ -8,10 +8,6 @@ pub mod Links
 pub mod World
 pub mod Grammar
 pub mod Headline
-pub mod Steps
-pub mod Held
-pub mod Accepting
-pub mod Answers
 pub mod Outside
 pub mod Progress
 pub mod Ways

@@ -4,12 +4,12 @@ use Rattle.std.specs.Ordering.{nat_cmp}
 use Rattle.std.specs.BTreeMap.{insert_entry, is_at}
 use Rattle.std.specs.Map.{lookup, set_value}
 use Rattle.rpc_record.specs.Records.{End, Rest, Broken, records}
-use Rattle.nfsgw.specs.Acts.{Act, Make, Ends, Turns, act_ends}
+use Rattle.nfsgw.specs.Acts.{Act, Make, Begins, Ends, Turns, Pumps, act_ends}
 use Rattle.nfsgw.specs.Requests.{act_of}
 use Rattle.nfsgw.specs.declared.link.Link.{Link}
 use Rattle.nfsgw.specs.declared.link.Link.TheVariants.{Open, Closed}
 use Rattle.nfsgw.specs.declared.grammar.Event.{Event}
-use Rattle.nfsgw.specs.declared.grammar.Event.TheVariants.{MakeFile, Bytes, Turn}
+use Rattle.nfsgw.specs.declared.grammar.Event.TheVariants.{MakeFile, Bytes, Turn, Pump}
 
 -- What records ask for, and how their connection goes on: it ends at a message that is no call, and at a header at fault.
 pub record Heard : Type 0 where
@@ -55,7 +55,7 @@ abbrev pub link_of : Option Link → Link
 link_of (Some link) = link
 link_of None = Open []
 
--- what an event asks for, and what it leaves of the connections
+-- What an event asks for, and what it leaves of the connections. Each but the `file` line begins an event of the run.
 pub record Arrival : Type 0 where
   pub acts : List Act
   pub front : Front
@@ -64,15 +64,21 @@ abbrev pub heard_on : Link → Bool → ℕ → List ℕ → Heard
 heard_on Closed in_tree conn piece = record { acts = []; link = Closed }
 heard_on (Open held) in_tree conn piece = heard_of in_tree conn (held ++ piece)
 
+abbrev pub heard_at : Option Link → ℕ → List ℕ → Front → Heard
+heard_at found conn piece f = heard_on (link_of found) f.in_tree conn piece
+
+-- the connections after a piece
+abbrev pub linked : Option Link → ℕ → List ℕ → Front → Front
+linked found conn piece f = record f { links = set_value (is_at (nat_cmp conn)) (opened_by found conn f.links) (heard_at found conn piece f).link }
+
 abbrev pub piece_on : Option Link → ℕ → List ℕ → Front → Arrival
-piece_on found conn piece f =
-    let h = heard_on (link_of found) f.in_tree conn piece in
-    record { acts = h.acts; front = record f { links = set_value (is_at (nat_cmp conn)) (opened_by found conn f.links) h.link } }
+piece_on found conn piece f = record { acts = Begins ∷ (heard_at found conn piece f).acts; front = linked found conn piece f }
 
 unfoldable pub arrival : Front → Event → Arrival
 arrival f MakeFile = record { acts = Make ∷ []; front = record f { in_tree = true } }
 arrival f (Bytes conn piece) = piece_on (link_at conn f.links) conn piece f
-arrival f Turn = record { acts = Turns ∷ []; front = f }
+arrival f Turn = record { acts = Begins ∷ Turns ∷ []; front = f }
+arrival f Pump = record { acts = Begins ∷ Pumps ∷ []; front = f }
 
 -- what the events of a transcript ask for
 abbrev pub acts_of : Front → List Event → List Act

@@ -1,4 +1,4 @@
--- What a whole message asks for (RFC 5531 section 9; RFC 1813 sections 2.5, 2.6, 3.3.0, 3.3.7, 5.2.0).
+-- What a whole message asks for (RFC 5531 section 9; RFC 1813 sections 2.5, 2.6, 3.3.0, 3.3.6, 3.3.7, 5.2.0).
 use Rattle.std.specs.Prelude.{ℕ, ◌≤◌, ◌==◌, ◌||◌, ◌&&◌, bytes_eq, not, Bool, if◌then◌else◌, List, ◌++◌, length, take, drop, Option, Some, None, Result, Ok, Err}
 use Rattle.gw_model.specs.declared.Stable.{Stable}
 use Rattle.gw_model.specs.declared.Stable.TheVariants.{Unstable}
@@ -14,10 +14,11 @@ use Rattle.rpc_msg.specs.Replies.{accepted, mismatched, denied}
 use Rattle.nfs_wire.specs.declared.args.Args.{Args}
 use Rattle.nfs_wire.specs.declared.args.Args.TheVariants as args
 use Rattle.nfs_wire.specs.Arguments.{args_of}
+use Rattle.nfsgw.specs.declared.message.ReadArgs.{ReadArgs}
 use Rattle.nfsgw.specs.declared.message.WriteArgs.{WriteArgs}
 use Rattle.nfsgw.specs.declared.message.Asked.{Asked}
-use Rattle.nfsgw.specs.declared.message.Asked.TheVariants.{Ends, Says, Writes}
-use Rattle.nfsgw.specs.declared.message.TheConstants.{SUCCESS, PROG_UNAVAIL, PROG_MISMATCH, PROC_UNAVAIL, GARBAGE_ARGS, AUTH_BADCRED, AUTH_REJECTEDCRED, NFS_PROGRAM, MOUNT_PROGRAM, VERSION, NULL, WRITE, BADHANDLE, STALE, INVAL}
+use Rattle.nfsgw.specs.declared.message.Asked.TheVariants.{Ends, Says, Reads, Writes}
+use Rattle.nfsgw.specs.declared.message.TheConstants.{SUCCESS, PROG_UNAVAIL, PROG_MISMATCH, PROC_UNAVAIL, GARBAGE_ARGS, AUTH_BADCRED, AUTH_REJECTEDCRED, NFS_PROGRAM, MOUNT_PROGRAM, VERSION, NULL, READ, WRITE, BADHANDLE, STALE, INVAL}
 
 -- the number of the first four bytes
 abbrev pub xid_of : List ℕ → ℕ
@@ -40,6 +41,7 @@ write_with xid _ q = reply_to xid PROC_UNAVAIL
 abbrev pub asked_with : ℕ → Args → Asked
 asked_with xid args.Null = reply_to xid SUCCESS
 asked_with xid args.MountNull = reply_to xid SUCCESS
+asked_with xid (args.Read handle offset count) = Reads xid (record { handle = handle; offset = offset; count = count })
 asked_with xid (args.Write handle offset count stable bytes) = write_with xid stable (record { handle = handle; offset = offset; count = count; «data» = bytes })
 asked_with xid _ = reply_to xid PROC_UNAVAIL
 
@@ -47,9 +49,9 @@ abbrev pub asked_by_args : ℕ → Result Args XdrFault → Asked
 asked_by_args xid (Ok a) = asked_with xid a
 asked_by_args xid (Err fault) = reply_to xid GARBAGE_ARGS
 
--- the procedures that are served: NULL of both programs, and WRITE
+-- the procedures that are served: NULL of both programs, READ and WRITE
 abbrev pub is_served : ℕ → ℕ → Bool
-is_served prog proc_no = proc_no == NULL || prog == NFS_PROGRAM && proc_no == WRITE
+is_served prog proc_no = proc_no == NULL || prog == NFS_PROGRAM && (proc_no == READ || proc_no == WRITE)
 
 -- a call: its program, version and procedure are judged in this order, and then its arguments
 abbrev pub asked_by_call : CallText → Asked
@@ -79,16 +81,28 @@ asked_of message = asked_by (call_of message)
 abbrev pub IsFew : Asked → Type 0
 IsFew Ends = Unit {0}
 IsFew (Says xid reply) = Unit {0}
+IsFew (Reads xid args) = Unit {0}
 IsFew (Writes xid args) = length args.data ≤ 1048576
 
 -- whether bytes are a handle of this gateway: the last 16 of its 32 bytes are the digest of the first 16
 abbrev pub is_handle : List ℕ → Bool
 is_handle bytes = length bytes == 32 && bytes_eq (md5 (take 16 bytes)) (drop 16 bytes)
 
--- the status by which a WRITE is refused before its range is looked at, where file 4 is in the tree or isn't
-abbrev pub refusal_of : Bool → WriteArgs → Option ℕ
-refusal_of in_tree q =
-    if not (is_handle q.handle) then Some BADHANDLE
-    else if not (in_tree && bytes_eq q.handle (handle_text 4 1)) then Some STALE
-    else if not (q.count == length q.data) then Some INVAL
+-- the status by which a request of a file is refused for its handle, where file 4 is in the tree or isn't
+abbrev pub bars : Bool → List ℕ → Option ℕ
+bars in_tree handle =
+    if not (is_handle handle) then Some BADHANDLE
+    else if not (in_tree && bytes_eq handle (handle_text 4 1)) then Some STALE
     else None
+
+abbrev pub miscounts : WriteArgs → Option ℕ
+miscounts q = if q.count == length q.data then None else Some INVAL
+
+-- the first refusal decides
+abbrev pub or_then : Option ℕ → Option ℕ → Option ℕ
+or_then (Some status) later = Some status
+or_then None later = later
+
+-- the status by which a WRITE is refused before its range is looked at
+abbrev pub refusal_of : Bool → WriteArgs → Option ℕ
+refusal_of in_tree q = or_then (bars in_tree q.handle) (miscounts q)

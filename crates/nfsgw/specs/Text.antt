@@ -6,7 +6,11 @@ use Rattle.hex.specs.Hex.{encode_lower}
 use Rattle.gw_model.specs.declared.Stable.{Stable}
 use Rattle.gw_model.specs.declared.Stable.TheVariants.{Unstable, DataSync, FileSync}
 use Rattle.gw_model.specs.Ending.{Why, Closed, Removed, Restarted, Ended, Fate, Lost, Stored, Open, WriteLine, History}
-use Rattle.xdr.specs.Items.{word, long}
+use Rattle.gw_model.specs.File.{Body, Wrote, NotWritten, Committed, NotCommitted, Gave, NotGiven, SystemErr, Silence}
+use Rattle.nfs_types.specs.Rows.{text}
+use Rattle.nfs_wire.specs.Results.{Results, Null, Read, Write, Commit, Refused, results_row}
+use Rattle.tickets.specs.declared.answer.Body as answer
+use Rattle.tickets.specs.declared.answer.Body.TheVariants as body
 use Rattle.rpc_msg.specs.Replies.{accepted}
 use Rattle.rpc_record.specs.Records.{mark_text}
 
@@ -19,13 +23,31 @@ level_word Unstable = 0
 level_word DataSync = 1
 level_word FileSync = 2
 
--- WRITE3resok: no attributes, the count, how far it is committed, and the verifier (RFC 1813 section 3.3.7)
-unfoldable pub wrote_reply : ℕ → ℕ → Stable → List ℕ
-wrote_reply xid count level = accepted xid 0 ++ word 0 ++ word 0 ++ word 0 ++ word count ++ word (level_word level) ++ long generation
+-- the results of an answer (RFC 1813 sections 3.3.6, 3.3.7 and 3.3.21)
+abbrev pub results_of : Body → Results
+results_of (Wrote count level) = Write count (level_word level) generation
+results_of (NotWritten status) = Refused status 2
+results_of Committed = Commit generation
+results_of (NotCommitted status) = Refused status 2
+results_of (Gave bytes eof) = Read (length bytes) eof bytes
+results_of (NotGiven status) = Refused status 1
+results_of SystemErr = Null
+results_of Silence = Null
 
--- WRITE3resfail: the status, and no attributes
-unfoldable pub refused_reply : ℕ → ℕ → List ℕ
-refused_reply xid status = accepted xid 0 ++ word status ++ word 0 ++ word 0
+-- an accepted reply with these results
+abbrev pub success : ℕ → Results → List ℕ
+success xid results = accepted xid 0 ++ text (results_row results)
+
+-- the reply that an answer is: want of memory is the accepted reply SYSTEM_ERR (RFC 5531 section 9)
+unfoldable pub reply_bytes : ℕ → Body → List ℕ
+reply_bytes xid SystemErr = accepted xid 5
+reply_bytes xid Silence = []
+reply_bytes xid body = success xid (results_of body)
+
+-- the reply that an answer holds, where it is a text
+abbrev pub text_in : answer.Body → List ℕ
+text_in (body.Text bytes) = bytes.items
+text_in _ = []
 
 -- a line of the output with bytes in hex digits
 unfoldable pub hex_line : ℕ → List ℕ → List ℕ

@@ -3,7 +3,7 @@ ghost use Rattle.std.specs.Prelude.{◌≡◌, ◌≢◌, ℕ, IfOk, IfErr, OnOk
 ghost use Rattle.rpc_msg.specs.declared.fault.CallFault.{CallFault};
 ghost use Rattle.rpc_msg.specs.Views.{call_view};
 ghost use Rattle.nfsgw.specs.declared.message.Asked.{Asked};
-ghost use Rattle.nfsgw.specs.Messages.{xid_of, is_served, reply_to, mismatch_text, write_with, asked_with, asked_by_call, asked_by_fault, asked_of, IsFew, refusal_of};
+ghost use Rattle.nfsgw.specs.Messages.{xid_of, is_served, reply_to, mismatch_text, write_with, asked_with, asked_by_call, asked_by_fault, asked_of, bars, miscounts, IsFew, refusal_of};
 ghost use Rattle.nfsgw.specs.Asking.{Gives, HasXid};
 
 use bytes::Bytes;
@@ -12,6 +12,15 @@ use handles::file_of;
 use nfs_wire::{Args, ArgsFault, read_args};
 use rpc_msg::{Call, CallFault, accepted_head, auth_error, read_call, rpc_mismatch};
 use std::alloc::{AllocError, Global};
+
+/// The arguments of a READ (RFC 1813 section 3.3.6).
+#[derive(Drop)]
+pub struct ReadArgs {
+    /// At most 64 bytes, which may be no handle.
+    pub handle: Bytes,
+    pub offset: u64,
+    pub count: u32,
+}
 
 /// The arguments of an UNSTABLE WRITE (RFC 1813 section 3.3.7).
 #[derive(Drop)]
@@ -32,6 +41,7 @@ pub enum Asked {
     Ends,
     /// It is answered by this message at once.
     Says { xid: u32, reply: Bytes },
+    Reads { xid: u32, args: ReadArgs },
     Writes { xid: u32, args: WriteArgs },
 }
 
@@ -65,6 +75,8 @@ const MOUNT_PROGRAM: u32 = 100_005;
 const VERSION: u32 = 3;
 
 const NULL: u32 = 0;
+
+const READ: u32 = 6;
 
 const WRITE: u32 = 7;
 
@@ -147,7 +159,7 @@ fn version_reply(alloc: Global, xid: u32) -> Result<Asked, Refused>
 fn is_served(prog: u32, proc_no: u32) -> bool
     ensures { result ≡ is_served prog proc_no }
 {
-    proc_no == NULL || prog == NFS_PROGRAM && proc_no == WRITE
+    proc_no == NULL || prog == NFS_PROGRAM && (proc_no == READ || proc_no == WRITE)
 }
 
 fn call_asked(alloc: Global, call: Call) -> Result<Asked, Refused>
@@ -176,6 +188,18 @@ fn args_asked(alloc: Global, xid: u32, args: Args) -> Result<Asked, Refused>
 {
     match args {
         Args::Null | Args::MountNull => status_reply(alloc, xid, SUCCESS),
+        Args::Read {
+            handle,
+            offset,
+            count,
+        } => {
+            let args = ReadArgs {
+                handle,
+                offset,
+                count,
+            };
+            Ok(Asked::Reads { xid, args })
+        }
         Args::Write {
             handle,
             offset,
@@ -204,21 +228,30 @@ fn write_asked(alloc: Global, xid: u32, stable: Stable, args: WriteArgs) -> Resu
     Ok(Asked::Writes { xid, args })
 }
 
-/// The status by which a WRITE is refused before its range is looked at (RFC 1813 sections 2.6 and 3.3.7), by whether
-/// file 4 is in the tree.
-pub fn refusal(args: &WriteArgs, in_tree: bool) -> Option<u32>
-    ensures { result ≡ refusal_of in_tree args.now }
+/// The status by which a request of a file is refused for its handle (RFC 1813 section 2.6), by whether file 4 is in the
+/// tree.
+pub fn handle_refusal(handle: &[u8], in_tree: bool) -> Option<u32>
+    ensures { result ≡ bars in_tree handle.now }
 {
-    let Some((file, fsid)) = file_of(args.handle.as_slice()) else {
+    let Some((file, fsid)) = file_of(handle) else {
         return Some(BADHANDLE);
     };
     if !in_tree || file != DATA_FILE || fsid != FSID {
         return Some(STALE);
     }
-    if args.count as usize != args.data.len() {
+    None
+}
+
+/// The status by which a WRITE is refused before its range is looked at (RFC 1813 sections 2.6 and 3.3.7), by whether
+/// file 4 is in the tree.
+pub fn refusal(args: &WriteArgs, in_tree: bool) -> Option<u32>
+    ensures { result ≡ refusal_of in_tree args.now }
+{
+    let refusal = handle_refusal(args.handle.as_slice(), in_tree);
+    if refusal.is_none() && args.count as usize != args.data.len() {
         return Some(INVAL);
     }
-    None
+    refusal
 }
 
 #[cfg(test)]
@@ -359,6 +392,49 @@ mod tests {
         assert_eq!(rt; args.data.as_slice(), b"abcde".as_slice());
         // The data shares the message's memory.
         assert!(rt; !kept.is_unique());
+        Ok(())
+    }
+
+    // A READ of 5 bytes at offset 2^32 + 2 of file 4.
+    const READ_CALL: [u32; 22] = [
+        9,
+        0,
+        2,
+        100_003,
+        3,
+        6,
+        0,
+        0,
+        0,
+        0,
+        32,
+        0,
+        4,
+        0,
+        1,
+        0x21e0_f297,
+        0x5a84_e78c,
+        0xec58_787a,
+        0xf28b_de14,
+        1,
+        2,
+        5,
+    ];
+
+    #[test]
+    fn reads_a_read(rt: HostRuntime) -> Result<(), Fail> {
+        let alloc = rt.alloc();
+        let call = message(alloc, &READ_CALL, &[])?;
+        let Asked::Reads { xid, args } = read_message(alloc, call)? else {
+            assert!(rt; false);
+            return Ok(());
+        };
+        assert_eq!(rt; xid, 9);
+        assert_eq!(rt; args.handle.as_slice(), FOUR.as_slice());
+        assert_eq!(rt; args.offset, 0x1_0000_0002);
+        assert_eq!(rt; args.count, 5);
+        let longer = message(alloc, &READ_CALL, &[0])?;
+        assert!(rt; says(alloc, longer, &[9, 1, 0, 0, 0, 4])?);
         Ok(())
     }
 

@@ -2,12 +2,15 @@
 ghost use Rattle.std.specs.Prelude.{◌≡◌, ◌<◌, ◌++◌, ◌^◌, IfOk, OnOk, length, string_bytes};
 ghost use Rattle.rpc_record.specs.Records.{mark_text};
 ghost use Rattle.rpc_msg.specs.Replies.{accepted};
-ghost use Rattle.gw_model.specs.declared.Stable.TheVariants.{Unstable};
-ghost use Rattle.nfsgw.specs.Text.{wrote_reply, refused_reply, hex_line, reply_line, closed_line};
-ghost use Rattle.nfsgw.specs.World.{reply_bytes};
-ghost use Rattle.nfsgw.specs.Answers.{body_of, text_in, IsWrite};
+ghost use Rattle.admit.specs.Answers.{body_of, IsPlain};
+ghost use Rattle.nfs_types.specs.Rows.{text};
+ghost use Rattle.nfs_wire.specs.Heads.{body_data, body_results};
+ghost use Rattle.nfs_wire.specs.Results.{results_row};
+ghost use Rattle.tickets.specs.declared.answer.Body.TheVariants.{SystemErr as SystemErrBody};
+ghost use Rattle.nfsgw.specs.Text.{generation, hex_line, reply_bytes, reply_line, closed_line, text_in};
 
-use rpc_msg::accepted_head;
+use nfs_wire::body_head;
+use rpc_msg::{accepted_head, system_err};
 use rpc_record::mark;
 use std::alloc::{AllocError, Global};
 use std::fmt::Write;
@@ -19,40 +22,45 @@ const VERIFIER: u64 = 1;
 
 const SUCCESS: u32 = 0;
 
-// The front of a reply that was accepted (RFC 5531 section 9).
-fn put_head(reply: &mut Writer, xid: u32) -> Result<(), NoMemory>
-    ensures { OnOk result (reply.new ≡ reply.old ++ accepted xid 0) }
+// The data of a READ that was done; other answers have none.
+fn data_of(body: &Body) -> &[u8]
+    ensures { result.now ≡ body_data body.now }
 {
-    reply.put_fixed(&accepted_head(xid, SUCCESS))
+    match body {
+        Body::Read {
+            status: 0, bytes, ..
+        } => bytes,
+        _ => &[],
+    }
 }
 
-/// The reply to an UNSTABLE write of `count` bytes that was done.
-#[tactic(auto, unfolding(crate::specs::Text::wrote_reply))]
-pub fn wrote_bytes(alloc: Global, xid: u32, count: u32) -> Result<Vec<u8>, NoMemory>
-    ensures { IfOk result (λ reply. reply.items ≡ wrote_reply xid count Unstable) }
+// An accepted reply with the results of an answer that is neither a text nor SYSTEM_ERR.
+fn put_results(reply: &mut Writer, xid: u32, body: &Body) -> Result<(), NoMemory>
+    ensures { OnOk result (reply.new ≡ reply.old ++ accepted xid 0 ++ text (results_row (body_results body.now generation))) }
 {
-    let mut reply = Writer::new(alloc);
-    put_head(&mut reply, xid)?;
-    reply.put_u32(0)?;
-    reply.put_u32(0)?;
-    reply.put_u32(0)?;
-    reply.put_u32(count)?;
-    reply.put_u32(0)?;
-    reply.put_u64(VERIFIER)?;
-    Ok(reply.into_vec())
+    let data = data_of(body);
+    if data.len() > 0xffff_ffff {
+        return Err(NoMemory);
+    }
+    reply.put_fixed(&accepted_head(xid, SUCCESS))?;
+    reply.put_fixed(body_head(body, VERIFIER).bytes())?;
+    reply.put_fixed(data)
 }
 
-/// The reply to a write that is refused.
-#[tactic(auto, unfolding(crate::specs::Text::refused_reply))]
-pub fn refused_bytes(alloc: Global, xid: u32, status: u32) -> Result<Vec<u8>, NoMemory>
-    ensures { IfOk result (λ reply. reply.items ≡ refused_reply xid status) }
+/// The reply that an answer is. Takes memory.
+#[tactic(auto, unfolding(crate::specs::Text::reply_bytes))]
+pub fn body_reply(alloc: Global, xid: u32, body: &Body) -> Result<Vec<u8>, AllocError>
+    requires plain { IsPlain body.now }
+    ensures { IfOk result (λ reply. reply.items ≡ reply_bytes xid (body_of body.now)) }
 {
+    if matches!(body, Body::SystemErr) {
+        return Vec::from_slice(alloc, &system_err(xid));
+    }
     let mut reply = Writer::new(alloc);
-    put_head(&mut reply, xid)?;
-    reply.put_u32(status)?;
-    reply.put_u32(0)?;
-    reply.put_u32(0)?;
-    Ok(reply.into_vec())
+    match put_results(&mut reply, xid, body) {
+        Ok(()) => Ok(reply.into_vec()),
+        Err(_) => Err(AllocError),
+    }
 }
 
 #[tactic(auto, unfolding(crate::specs::Text::hex_line))]
@@ -81,20 +89,12 @@ pub fn line(alloc: Global, conn: u32, reply: &[u8]) -> Result<String, AllocError
     Ok(out)
 }
 
-/// The line of the reply to an UNSTABLE WRITE. Takes memory.
+/// The line of an answer's reply. Takes memory.
 pub fn reply_text(alloc: Global, conn: u32, xid: u32, body: &Body) -> Result<String, AllocError>
-    requires { IsWrite body.now }
+    requires plain { IsPlain body.now }
     ensures { IfOk result (λ text. string_bytes text ≡ reply_line conn (reply_bytes xid (body_of body.now))) }
 {
-    let Body::Write { status, count, .. } = body else {
-        unreachable!();
-    };
-    let reply = if *status == 0 {
-        wrote_bytes(alloc, xid, *count)
-    } else {
-        refused_bytes(alloc, xid, *status)
-    };
-    let reply = reply.map_err(|_| AllocError)?;
+    let reply = body_reply(alloc, xid, body)?;
     line(alloc, conn, &reply)
 }
 

@@ -1,18 +1,18 @@
 // What a message of a connection asks for.
-ghost use Rattle.std.specs.Prelude.{◌≡◌, ◌≤◌, true, false, ℕ, IfOk, length};
-ghost use Rattle.nfsgw.specs.Acts.{Says};
-ghost use Rattle.nfsgw.specs.Text.{refused_reply, wrote_reply};
-ghost use Rattle.nfsgw.specs.Requests.{act_of, act_by, act_in, write_act, judged_act, IsFitting};
-ghost use Rattle.nfsgw.specs.declared.message.Asked.TheVariants.{Writes};
-ghost use Rattle.gw_model.specs.declared.Stable.TheVariants.{Unstable};
+ghost use Rattle.std.specs.Prelude.{◌≡◌, ◌≤◌, true, false, ℕ, IfErr, IfOk, length};
+ghost use Rattle.admit.specs.Answers.{body_of, IsPlain};
+ghost use Rattle.tickets.specs.declared.answer.Body.TheVariants.{Write as WriteBody};
+ghost use Rattle.nfsgw.specs.Requests.{act_of, act_by, act_in, answers, write_act, IsFitting, IsRequest};
+ghost use Rattle.nfsgw.specs.declared.message.Asked.TheVariants.{Reads, Writes};
 
-use crate::answer::FBIG;
-use crate::call::WriteCall;
-use crate::message::{Asked, WriteArgs, read_message, refusal};
-use crate::reply::{refused_bytes, wrote_bytes};
+use crate::call::{ReadCall, WriteCall};
+use crate::message::{Asked, ReadArgs, Refused, WriteArgs, handle_refusal, read_message, refusal};
+use crate::reply::body_reply;
 use bytes::Bytes;
 use gw_model::end_of;
-use std::alloc::{AllocError, Global};
+use nfs_types::status::{NFS3_OK, NFS3ERR_FBIG};
+use std::alloc::Global;
+use tickets::Body;
 
 /// What a message asks for.
 #[derive(Debug, Drop)]
@@ -21,37 +21,51 @@ pub enum Request {
     Ends,
     /// It is answered at once.
     Says { xid: u32, reply: Bytes },
+    /// A READ of the file.
+    Reads(ReadCall),
     /// A WRITE of the file.
     Writes(WriteCall),
 }
 
-// A request that is refused with a status of NFS.
-fn refuse(alloc: Global, xid: u32, status: u32) -> Result<Request, AllocError>
-    ensures act { IfOk result (λ r. (conn : ℕ) → act_in conn r ≡ Says conn xid (refused_reply xid status)) }
+// A request that is answered at once.
+fn answer(alloc: Global, xid: u32, body: &Body) -> Result<Request, Refused>
+    requires plain { IsPlain body.now }
+    ensures act { IfOk result (λ r. (conn : ℕ) → act_in conn r ≡ answers conn xid (body_of body.now)) }
     ensures fits { IfOk result (λ r. IsFitting true r × IsFitting false r) }
+    ensures refused { IfErr result (λ e. e.xid ≡ xid) }
 {
-    let reply = refused_bytes(alloc, xid, status).map_err(|_| AllocError)?;
-    Ok(Request::Says {
-        xid,
-        reply: Bytes::from_vec(reply)?,
-    })
+    match body_reply(alloc, xid, body) {
+        Ok(reply) => match Bytes::from_vec(reply) {
+            Ok(reply) => Ok(Request::Says { xid, reply }),
+            Err(_) => Err(Refused { xid }),
+        },
+        Err(_) => Err(Refused { xid }),
+    }
+}
+
+// The body of a WRITE's answer (RFC 1813 section 3.3.7).
+fn write_body(status: u32) -> Body
+    ensures { result ≡ WriteBody status 0 0 }
+{
+    Body::Write {
+        status,
+        count: 0,
+        committed: 0,
+    }
 }
 
 // A WRITE that isn't refused for its file or its count.
-fn write_request(alloc: Global, xid: u32, args: WriteArgs) -> Result<Request, AllocError>
+fn write_request(alloc: Global, xid: u32, args: WriteArgs) -> Result<Request, Refused>
     requires few { length args.data ≤ 1048576 }
     ensures act { IfOk result (λ r. (conn : ℕ) → act_in conn r ≡ write_act conn xid args) }
     ensures fits { IfOk result (λ r. IsFitting true r) }
+    ensures refused { IfErr result (λ e. (conn : ℕ) → IsRequest (write_act conn xid args) conn e.xid) }
 {
     if end_of(args.offset, args.data.len() as u32).is_none() {
-        return refuse(alloc, xid, FBIG);
+        return answer(alloc, xid, &write_body(NFS3ERR_FBIG));
     }
     if args.data.is_empty() {
-        let reply = wrote_bytes(alloc, xid, 0).map_err(|_| AllocError)?;
-        return Ok(Request::Says {
-            xid,
-            reply: Bytes::from_vec(reply)?,
-        });
+        return answer(alloc, xid, &write_body(NFS3_OK));
     }
     Ok(Request::Writes(WriteCall {
         xid,
@@ -60,31 +74,59 @@ fn write_request(alloc: Global, xid: u32, args: WriteArgs) -> Result<Request, Al
     }))
 }
 
-fn judged_request(
+fn judged_write_request(
     alloc: Global,
     in_tree: bool,
     xid: u32,
     args: WriteArgs,
-) -> Result<Request, AllocError>
+) -> Result<Request, Refused>
     requires few { length args.data ≤ 1048576 }
     ensures act { IfOk result (λ r. (conn : ℕ) → act_in conn r ≡ act_by in_tree conn (Writes xid args)) }
     ensures fits { IfOk result (λ r. IsFitting in_tree r) }
+    ensures refused { IfErr result (λ e. (conn : ℕ) → IsRequest (act_by in_tree conn (Writes xid args)) conn e.xid) }
 {
     match refusal(&args, in_tree) {
-        Some(status) => refuse(alloc, xid, status),
+        Some(status) => answer(alloc, xid, &write_body(status)),
         None => write_request(alloc, xid, args),
     }
 }
 
-/// What a message asks for, where the file is in the tree or not. It fails only for want of memory.
-pub fn read_request(alloc: Global, in_tree: bool, message: Bytes) -> Result<Request, AllocError>
+fn judged_read_request(
+    alloc: Global,
+    in_tree: bool,
+    xid: u32,
+    args: ReadArgs,
+) -> Result<Request, Refused>
+    ensures act { IfOk result (λ r. (conn : ℕ) → act_in conn r ≡ act_by in_tree conn (Reads xid args)) }
+    ensures fits { IfOk result (λ r. IsFitting in_tree r) }
+    ensures refused { IfErr result (λ e. (conn : ℕ) → IsRequest (act_by in_tree conn (Reads xid args)) conn e.xid) }
+{
+    if let Some(status) = handle_refusal(args.handle.as_slice(), in_tree) {
+        let body = Body::Read {
+            status,
+            eof: false,
+            bytes: Vec::new(alloc),
+        };
+        return answer(alloc, xid, &body);
+    }
+    Ok(Request::Reads(ReadCall {
+        xid,
+        offset: args.offset,
+        count: args.count,
+    }))
+}
+
+/// What a message asks for, where the file is in the tree or not. Want of memory gives the number of the request for which
+/// it was refused.
+pub fn read_request(alloc: Global, in_tree: bool, message: Bytes) -> Result<Request, Refused>
     ensures act { IfOk result (λ r. (conn : ℕ) → act_in conn r ≡ act_of in_tree conn message) }
     ensures fits { IfOk result (λ r. IsFitting in_tree r) }
+    ensures refused { IfErr result (λ e. (conn : ℕ) → IsRequest (act_of in_tree conn message) conn e.xid) }
 {
-    match read_message(alloc, message) {
-        Ok(Asked::Ends) => Ok(Request::Ends),
-        Ok(Asked::Says { xid, reply }) => Ok(Request::Says { xid, reply }),
-        Ok(Asked::Writes { xid, args }) => judged_request(alloc, in_tree, xid, args),
-        Err(_) => Err(AllocError),
+    match read_message(alloc, message)? {
+        Asked::Ends => Ok(Request::Ends),
+        Asked::Says { xid, reply } => Ok(Request::Says { xid, reply }),
+        Asked::Reads { xid, args } => judged_read_request(alloc, in_tree, xid, args),
+        Asked::Writes { xid, args } => judged_write_request(alloc, in_tree, xid, args),
     }
 }

@@ -1,20 +1,20 @@
 // The top call: a command over a source, a sink and a store.
-ghost use Rattle.std.specs.Prelude.{◌≡◌, ◌≢◌, ◌<◌, ◌≤◌, ◌+◌, ◌==◌, ◌↔◌, None, is_some, map, string_bytes, true, false, IsTrue};
-ghost use Rattle.std.specs.Option.{option_map};
+ghost use Rattle.std.specs.Prelude.{◌≡◌, ◌≢◌, ◌<◌, ◌≤◌, ◌+◌, ◌-◌, ◌^◌, ◌==◌, ◌↔◌, ℕ, List, Option, None, map, string_bytes, true, false, IsTrue};
 ghost use Rattle.gw_outside.specs.Causes.{Rose};
 ghost use Rattle.append_store.specs.State.{IsAway, bytes_of};
 ghost use Rattle.transcript.specs.Script.{max_lines};
 ghost use Rattle.gw_model.specs.declared.object.ObjectId.{ObjectId};
+ghost use Rattle.nfsgw.specs.Answering.{history_left};
 ghost use Rattle.nfsgw.specs.Headline.{IsReplay, IsComplete, Runs};
-ghost use Rattle.nfsgw.specs.Steps.{idle, end_history};
-ghost use Rattle.nfsgw.specs.Outside.{body_id, body_at, faults_at, Safe, Stands, IsReady, GivesBack};
-ghost use Rattle.nfsgw.specs.Progress.{Turns, Ends, IsEventTurn, IsWritten, status_by};
+ghost use Rattle.nfsgw.specs.Outside.{body_id, body_at, faults_at, Safe, Stands, IsReady};
+ghost use Rattle.nfsgw.specs.Progress.{Turns, Ends, IsEventTurn, IsWritten, idle, status_by};
 
 use crate::gateway::Gateway;
 use crate::grammar::{Event, Line, line_of};
 use crate::status::Status;
-use crate::world::{BODY, Stepped};
+use crate::world::Stepped;
 use append_store::Cluster;
+use file_cell::{Ended, Why};
 use gw_outside::{Sink, Source};
 use std::alloc::Global;
 use transcript::{Lines, MAX_LINES, Next, write_all};
@@ -48,33 +48,32 @@ struct Ending {
 pub enum Written {
     Whole,
     WriteFault,
-    NoMemory,
 }
 
 /// Does one event and writes what it answers.
 fn one_event<K: Sink, C: Cluster>(
-    alloc: Global,
     event: Event,
-    gateway: &mut Gateway,
+    gateway: &mut Gateway<C>,
     sink: &mut K,
     cluster: &mut C,
-    body: &mut Option<C::File>,
 ) -> Turn
-    requires both { is_some body.old ≡ is_some gateway.old.state.opened }
-    requires stands { Stands C.File.tells gateway.old.front.in_tree (C.at cluster.old body_id) (option_map (λ b. C.File.mark b) body.old) }
+    requires stands { Stands C.File.tells gateway.old.front.in_tree (C.at cluster.old body_id) gateway.old.kept.opened }
     requires ready { IsReady event gateway.old.front.in_tree }
-    ensures moves { IsEventTurn C.File.tells result event gateway.old gateway.new (K.held sink.old) (K.held sink.new)
-        (body_at (C.at cluster.old body_id) (option_map (λ b. C.File.content b) body.old)) (body_at (C.at cluster.new body_id) (option_map (λ b. C.File.content b) body.new))
-        (faults_at (C.count cluster.old) (option_map (λ b. C.File.count b) body.old)) (faults_at (C.count cluster.new) (option_map (λ b. C.File.count b) body.new)) }
-    ensures both_after { result ≡ Turn.More → is_some body.new ≡ is_some gateway.new.state.opened }
+    requires few { gateway.old.kept.noted.event < 2 ^ 64 - 1 }
+    ensures moves { (left : Option (List ℕ)) → IsEventTurn C.File.tells result event gateway.old gateway.new
+        (record { left = left; held = K.held sink.old; body = body_at (C.at cluster.old body_id) gateway.old.kept.opened; faults = faults_at (C.count cluster.old) gateway.old.kept.opened })
+        (record { left = left; held = K.held sink.new; body = body_at (C.at cluster.new body_id) gateway.new.kept.opened; faults = faults_at (C.count cluster.new) gateway.new.kept.opened }) }
+    ensures event { gateway.new.kept.noted.event ≤ gateway.old.kept.noted.event + 1 }
     ensures others { C.File.tells → (q : ObjectId) → q ≢ body_id → C.at cluster.new q ≡ C.at cluster.old q }
-    ensures safe { Safe C.File.tells (C.at cluster.new body_id) (option_map (λ b. C.File.mark b) body.new) }
-    ensures stands_after { result ≡ Turn.More → Stands C.File.tells gateway.new.front.in_tree (C.at cluster.new body_id) (option_map (λ b. C.File.mark b) body.new) }
+    ensures safe { Safe C.File.tells (C.at cluster.new body_id) gateway.new.kept.opened }
+    ensures stands_after { result ≡ Turn.More → Stands C.File.tells gateway.new.front.in_tree (C.at cluster.new body_id) gateway.new.kept.opened }
     ensures later { K.count sink.old ≤ K.count sink.new }
     ensures write_cause { result ≡ Turn.WriteFault → Rose (K.count sink.old) (K.count sink.new) }
-    ensures store_cause { result ≡ Turn.StoreFault → Rose (faults_at (C.count cluster.old) (option_map (λ b. C.File.count b) body.old)) (faults_at (C.count cluster.new) (option_map (λ b. C.File.count b) body.new)) }
+    ensures store_cause { result ≡ Turn.StoreFault → Rose (faults_at (C.count cluster.old) gateway.old.kept.opened) (faults_at (C.count cluster.new) gateway.new.kept.opened) }
 {
-    match gateway.step(alloc, event, cluster, body) {
+    let stepped = gateway.step(event, cluster);
+    gateway.clear();
+    match stepped {
         Stepped::Text(text) => match write_all(sink, text.as_bytes()) {
             Ok(()) => Turn::More,
             Err(_) => Turn::WriteFault,
@@ -89,33 +88,32 @@ fn one_line<S: Source, K: Sink, C: Cluster>(
     alloc: Global,
     before: u64,
     lines: &mut Lines,
-    gateway: &mut Gateway,
+    gateway: &mut Gateway<C>,
     source: &mut S,
     sink: &mut K,
     cluster: &mut C,
-    body: &mut Option<C::File>,
 ) -> Turn
     requires few { before < max_lines }
-    requires both { is_some body.old ≡ is_some gateway.old.state.opened }
-    requires stands { Stands C.File.tells gateway.old.front.in_tree (C.at cluster.old body_id) (option_map (λ b. C.File.mark b) body.old) }
+    requires events { gateway.old.kept.noted.event ≤ before }
+    requires stands { Stands C.File.tells gateway.old.front.in_tree (C.at cluster.old body_id) gateway.old.kept.opened }
     requires first { (before == 0) ≡ true → gateway.old.front.in_tree ≡ false }
     ensures moves { Turns C.File.tells result (record { state = gateway.old; first = before == 0; before = before; pending = lines.old.pending })
         (record { state = gateway.new; first = false; before = before + 1; pending = lines.new.pending })
-        (record { left = S.left source.old; held = K.held sink.old; body = body_at (C.at cluster.old body_id) (option_map (λ b. C.File.content b) body.old); faults = faults_at (C.count cluster.old) (option_map (λ b. C.File.count b) body.old) })
-        (record { left = S.left source.new; held = K.held sink.new; body = body_at (C.at cluster.new body_id) (option_map (λ b. C.File.content b) body.new); faults = faults_at (C.count cluster.new) (option_map (λ b. C.File.count b) body.new) }) }
-    ensures both_after { result ≡ Turn.More → is_some body.new ≡ is_some gateway.new.state.opened }
+        (record { left = S.left source.old; held = K.held sink.old; body = body_at (C.at cluster.old body_id) gateway.old.kept.opened; faults = faults_at (C.count cluster.old) gateway.old.kept.opened })
+        (record { left = S.left source.new; held = K.held sink.new; body = body_at (C.at cluster.new body_id) gateway.new.kept.opened; faults = faults_at (C.count cluster.new) gateway.new.kept.opened }) }
+    ensures events_after { gateway.new.kept.noted.event ≤ before + 1 }
     ensures others { C.File.tells → (q : ObjectId) → q ≢ body_id → C.at cluster.new q ≡ C.at cluster.old q }
-    ensures stands_after { result ≡ Turn.More → Stands C.File.tells gateway.new.front.in_tree (C.at cluster.new body_id) (option_map (λ b. C.File.mark b) body.new) }
-    ensures safe { Safe C.File.tells (C.at cluster.new body_id) (option_map (λ b. C.File.mark b) body.new) }
+    ensures stands_after { result ≡ Turn.More → Stands C.File.tells gateway.new.front.in_tree (C.at cluster.new body_id) gateway.new.kept.opened }
+    ensures safe { Safe C.File.tells (C.at cluster.new body_id) gateway.new.kept.opened }
     ensures source_later { S.count source.old ≤ S.count source.new }
     ensures sink_later { K.count sink.old ≤ K.count sink.new }
     ensures read_cause { result ≡ Turn.ReadFault → Rose (S.count source.old) (S.count source.new) }
     ensures write_cause { result ≡ Turn.WriteFault → Rose (K.count sink.old) (K.count sink.new) }
-    ensures store_cause { result ≡ Turn.StoreFault → Rose (faults_at (C.count cluster.old) (option_map (λ b. C.File.count b) body.old)) (faults_at (C.count cluster.new) (option_map (λ b. C.File.count b) body.new)) }
+    ensures store_cause { result ≡ Turn.StoreFault → Rose (faults_at (C.count cluster.old) gateway.old.kept.opened) (faults_at (C.count cluster.new) gateway.new.kept.opened) }
 {
     match lines.next(source) {
         Next::Line => match line_of(alloc, before == 0, lines.line()) {
-            Ok(Some(Line::Go(event))) => one_event(alloc, event, gateway, sink, cluster, body),
+            Ok(Some(Line::Go(event))) => one_event(event, gateway, sink, cluster),
             Ok(Some(Line::End)) => Turn::Ended,
             Ok(None) => Turn::Bad,
             Err(_) => Turn::NoMemory,
@@ -130,32 +128,28 @@ fn one_line<S: Source, K: Sink, C: Cluster>(
 /// Reads and does all lines.
 fn all_lines<S: Source, K: Sink, C: Cluster>(
     alloc: Global,
-    gateway: &mut Gateway,
+    gateway: &mut Gateway<C>,
     source: &mut S,
     sink: &mut K,
     cluster: &mut C,
-    body: &mut Option<C::File>,
 ) -> Ending
     requires fresh { gateway.old ≡ idle }
-    requires no_body { body.old ≡ None }
     requires home { Safe C.File.tells (C.at cluster.old body_id) None }
     ensures moves { Ends C.File.tells result.turn result.lines gateway.new
         (record { left = S.left source.old; held = K.held sink.old; body = bytes_of (C.at cluster.old body_id); faults = C.count cluster.old })
-        (record { left = S.left source.new; held = K.held sink.new; body = body_at (C.at cluster.new body_id) (option_map (λ b. C.File.content b) body.new); faults = faults_at (C.count cluster.new) (option_map (λ b. C.File.count b) body.new) }) }
+        (record { left = S.left source.new; held = K.held sink.new; body = body_at (C.at cluster.new body_id) gateway.new.kept.opened; faults = faults_at (C.count cluster.new) gateway.new.kept.opened }) }
     ensures few { result.lines ≤ max_lines }
     ensures others { C.File.tells → (q : ObjectId) → q ≢ body_id → C.at cluster.new q ≡ C.at cluster.old q }
-    ensures safe { Safe C.File.tells (C.at cluster.new body_id) (option_map (λ b. C.File.mark b) body.new) }
+    ensures safe { Safe C.File.tells (C.at cluster.new body_id) gateway.new.kept.opened }
     ensures source_later { S.count source.old ≤ S.count source.new }
     ensures sink_later { K.count sink.old ≤ K.count sink.new }
     ensures read_cause { result.turn ≡ Turn.ReadFault → Rose (S.count source.old) (S.count source.new) }
     ensures write_cause { result.turn ≡ Turn.WriteFault → Rose (K.count sink.old) (K.count sink.new) }
-    ensures store_cause { result.turn ≡ Turn.StoreFault → Rose (C.count cluster.old) (faults_at (C.count cluster.new) (option_map (λ b. C.File.count b) body.new)) }
+    ensures store_cause { result.turn ≡ Turn.StoreFault → Rose (C.count cluster.old) (faults_at (C.count cluster.new) gateway.new.kept.opened) }
 {
     let mut lines = Lines::new(alloc);
     for before in 0..MAX_LINES {
-        match one_line(
-            alloc, before, &mut lines, gateway, source, sink, cluster, body,
-        ) {
+        match one_line(alloc, before, &mut lines, gateway, source, sink, cluster) {
             Turn::More => {}
             turn => return Ending {
                 turn,
@@ -169,29 +163,16 @@ fn all_lines<S: Source, K: Sink, C: Cluster>(
     }
 }
 
-/// Gives the body back to the store, if it was taken.
-fn give_back<C: Cluster>(cluster: &mut C, body: Option<C::File>)
-    requires safe { Safe C.File.tells (C.at cluster.old body_id) (option_map (λ b. C.File.mark b) body) }
-    ensures bytes { C.File.tells → bytes_of (C.at cluster.new body_id) ≡ body_at (C.at cluster.old body_id) (option_map (λ b. C.File.content b) body) }
-    ensures home { C.File.tells → IsAway (C.at cluster.new body_id) → ⊥ }
-    ensures others { C.File.tells → (q : ObjectId) → q ≢ body_id → C.at cluster.new q ≡ C.at cluster.old q }
-    ensures count { GivesBack (C.count cluster.old) (option_map (λ b. C.File.count b) body) (C.count cluster.new) }
-{
-    if let Some(file) = body {
-        cluster.give_file(BODY, file);
-    }
-}
-
-/// Writes the history of the open file.
-fn write_history<K: Sink>(alloc: Global, gateway: &Gateway, sink: &mut K) -> Written
-    ensures text { IsWritten result (end_history gateway.now.state.opened) (K.held sink.old) (K.held sink.new) }
+/// Writes the history of the file that was open.
+fn write_history<K: Sink>(ended: Option<Ended>, sink: &mut K) -> Written
+    ensures text { IsWritten result (history_left ended) (K.held sink.old) (K.held sink.new) }
     ensures later { K.count sink.old ≤ K.count sink.new }
     ensures cause { result ≡ Written.WriteFault → Rose (K.count sink.old) (K.count sink.new) }
 {
-    let Ok(text) = gateway.history(alloc) else {
-        return Written::NoMemory;
+    let Some(ended) = ended else {
+        return Written::Whole;
     };
-    match write_all(sink, text.as_bytes()) {
+    match ended.write_history(sink, Why::End) {
         Ok(()) => Written::Whole,
         Err(_) => Written::WriteFault,
     }
@@ -231,19 +212,17 @@ fn replay<S: Source, K: Sink, C: Cluster>(
     ensures not_usage { result ≢ Status.Usage }
 {
     let mut gateway = Gateway::new(alloc);
-    let mut body = None;
-    let ending = all_lines(alloc, &mut gateway, source, sink, cluster, &mut body);
-    give_back(cluster, body);
+    let ending = all_lines(alloc, &mut gateway, source, sink, cluster);
+    let ended = gateway.finish(cluster);
     match ending.turn {
         Turn::StoreFault | Turn::WriteFault | Turn::NoMemory => {
             return status_of(ending.turn, ending.lines);
         }
         _ => {}
     }
-    match write_history(alloc, &gateway, sink) {
+    match write_history(ended, sink) {
         Written::Whole => status_of(ending.turn, ending.lines),
         Written::WriteFault => Status::WriteFault,
-        Written::NoMemory => Status::NoMemory,
     }
 }
 

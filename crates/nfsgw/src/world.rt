@@ -1,30 +1,34 @@
-// The file's context and the requests that wait, and what each act makes of them.
-ghost use Rattle.std.specs.Prelude.{◌≡◌, ◌≢◌, ◌≤◌, ◌<◌, ◌+◌, ◌∷◌, ◌^◌, ℕ, [], IfOk, OnOk, OnErr, is_some, length, string_bytes, true, false, IsTrue};
-ghost use Rattle.std.specs.Option.{option_map};
+// The open file and the requests that wait, and what each act makes of them.
+ghost use Rattle.std.specs.Prelude.{◌≡◌, ◌≢◌, ◌≤◌, ◌<◌, ◌+◌, ◌-◌, ◌∷◌, ◌^◌, ℕ, [], IfOk, OnOk, OnErr, length, string_bytes, true, false, List, Bool};
 ghost use Rattle.gw_outside.specs.Causes.{Rose};
 ghost use Rattle.gw_model.specs.declared.object.ObjectId.{ObjectId};
-ghost use Rattle.append_store.specs.State.{ObjectState, bytes_of};
-ghost use Rattle.nfsgw.specs.World.{send};
-ghost use Rattle.nfsgw.specs.Steps.{State, initial, end_history};
-ghost use Rattle.nfsgw.specs.Answers.{answer_of, IsWrite, Untouched};
-ghost use Rattle.nfsgw.specs.Acts.{Make, Says, Writes, Ends, Turns};
-ghost use Rattle.nfsgw.specs.Outside.{body_id, body_at, faults_at, Safe, Home, IsText, IsStep, IsCut, IsQuiet, IsActed, IsOpened, TakesIn};
+ghost use Rattle.gw_model.specs.Views.{next_event};
+ghost use Rattle.append_store.specs.State.{ObjectState, IsAway, IsThere, bytes_of};
+ghost use Rattle.tickets.specs.Desk.{TicketId, next_ticket};
+ghost use Rattle.nfsgw.specs.Acts.{Act, Make, Says, Writes, Reads, Ends, Turns, Pumps};
+ghost use Rattle.nfsgw.specs.Requests.{IsRequest};
+ghost use Rattle.nfsgw.specs.World.{World as WorldState};
+ghost use Rattle.nfsgw.specs.Outside.{body_id, body_at, scene, GivesBack, Safe, Home, IsText, IsStep, IsCut, IsActed, IsOpen};
+ghost use Rattle.nfsgw.specs.Progress.{initial};
+ghost use Rattle.nfsgw.specs.Answering.{HistoryOf, begins, has_room, IsAsked};
 
-use crate::answer::{IO, refused};
-use crate::call::WriteCall;
-use crate::open_file::{OpenFile, Verdict};
-use crate::reply::{closed_text, reply_text, said_text};
-use append_store::{AppendFile, Cluster, CreateFault};
-use gw_model::ObjectId;
+use crate::answers::{conclude, not_written, read_answer, send_left, send_one};
+use crate::call::{ReadCall, WriteCall};
+use crate::opening::{BODY, Failure, open_file, read_body};
+use crate::reply::{closed_text, said_text};
+use admit::{ReadReq, Verdict, WriteReq};
+use append_store::{Cluster, CreateFault};
+use bytes::Bytes;
+use file_cell::{Ended, FileCell, Stepped as CellStepped};
+use gw_model::{Outcome, Stable, Trace};
+use nfs_types::status::{NFS3_OK, NFS3ERR_IO};
+use range_map::SortedVecMap;
 use std::alloc::{AllocError, Global};
 use std::marker::Model;
 use tickets::{Answer, Body, ReplyDesk, Sent, Ticket};
 
-/// The body of the one file.
-pub const BODY: ObjectId = ObjectId::Body {
-    file: 4,
-    version: 1,
-};
+/// The notes that one act may make.
+const NOTES: usize = 9;
 
 /// What came of an event.
 #[derive(Drop)]
@@ -36,19 +40,26 @@ pub enum Stepped {
     NoMemory,
 }
 
-/// The context of the file, once it was opened, and the requests that wait for an answer.
+/// The context of the file, once it was opened, the requests that wait for an answer, and the outcomes that were noted.
 #[derive(Drop)]
-pub struct World {
-    context: Option<OpenFile>,
+pub struct World<C: Cluster> {
+    alloc: Global,
+    cell: Option<FileCell<C::File, SortedVecMap>>,
     desk: ReplyDesk,
+    trace: Trace,
 }
 
-impl Model for World {
-    ghost use Rattle.nfsgw.specs.Steps.{State};
+impl<C: Cluster> Model for World<C> {
+    ghost use Rattle.std.specs.Prelude.{◌≤◌};
+    ghost use Rattle.nfsgw.specs.Outside.{Kept};
+    ghost use Rattle.nfsgw.specs.Answering.{IsReady};
 
-    ghost Value = { State };
+    ghost Value = { Kept };
 
-    ghost view = { λ w. record { opened = w.context; desk = w.desk } };
+    ghost view = { λ w. record { opened = w.cell; desk = w.desk; noted = w.trace } };
+
+    // No answer is left in the file, and each request of the event has a ticket.
+    ghost invariant = { λ w. IsReady w.cell × (w.trace.request ≤ w.desk.last) };
 }
 
 /// What came of an event whose text was made, or not for want of memory.
@@ -62,201 +73,323 @@ pub fn told(text: Result<String, AllocError>) -> Stepped
     }
 }
 
-/// Creates the body, which is left as it is where it is there already.
-pub fn make_file<C: Cluster>(alloc: Global, cluster: &mut C) -> Stepped
-    requires safe { Safe C.File.tells (C.at cluster.old body_id) None }
-    ensures step { (s : State) → IsActed C.File.tells result Make s s (bytes_of (C.at cluster.old body_id)) (bytes_of (C.at cluster.new body_id)) (C.count cluster.old) (C.count cluster.new) }
-    ensures safe_after { Safe C.File.tells (C.at cluster.new body_id) None }
-    ensures home { IsText result → Home C.File.tells (C.at cluster.new body_id) None }
-    ensures others { C.File.tells → (q : ObjectId) → q ≢ body_id → C.at cluster.new q ≡ C.at cluster.old q }
-    ensures cause { result ≡ Stepped.StoreFault → Rose (C.count cluster.old) (C.count cluster.new) }
-{
-    match cluster.create(BODY) {
-        Ok(()) => Stepped::Text(String::new(alloc)),
-        Err(CreateFault::Fault) => Stepped::StoreFault,
-        Err(CreateFault::Memory) => Stepped::NoMemory,
-    }
-}
-
-impl World {
-    /// No file is open, and nobody waits.
-    pub fn new(alloc: Global) -> World
+impl<C: Cluster> World<C> {
+    /// No file is open, nobody waits, and nothing was noted.
+    pub fn new(alloc: Global) -> World<C>
         ensures { result ≡ initial }
     {
         World {
-            context: None,
+            alloc,
+            cell: None,
             desk: ReplyDesk::new(alloc),
+            trace: Trace::new(alloc),
         }
     }
 
-    /// Sends an answer, and gives what it writes.
-    fn answer(&mut self, alloc: Global, answer: Answer) -> Result<String, AllocError>
-        requires write { IsWrite answer.body }
-        ensures desk { self.new ≡ record self.old { desk = (send self.old.desk (answer_of answer ∷ [])).desk } }
-        ensures text { IfOk result (λ text. string_bytes text ≡ (send self.old.desk (answer_of answer ∷ [])).text) }
+    /// The next event begins.
+    pub fn begin_event(&mut self)
+        ensures { self.new ≡ record self.old { noted = next_event self.old.noted } }
     {
-        match self.desk.send(answer) {
-            Sent::Reply { conn, xid, body } => reply_text(alloc, conn, xid, &body),
-            Sent::Cancelled => Ok(String::new(alloc)),
-        }
+        self.trace.begin_event();
     }
 
-    /// Takes the body from the store and opens it, where it isn't open. Says whether it is open.
-    fn open<C: Cluster>(
-        &mut self,
-        alloc: Global,
-        cluster: &mut C,
-        body: &mut Option<C::File>,
-    ) -> Result<bool, AllocError>
-        requires both { is_some body.old ≡ is_some self.old.opened }
-        requires home { Home C.File.tells (C.at cluster.old body_id) (option_map (λ b. C.File.mark b) body.old) }
-        ensures ok { IfOk result (λ opened. IsOpened C.File.tells opened self.old.opened self.old.desk self.new
-            (body_at (C.at cluster.old body_id) (option_map (λ b. C.File.content b) body.old)) (body_at (C.at cluster.new body_id) (option_map (λ b. C.File.content b) body.new))
-            (faults_at (C.count cluster.old) (option_map (λ b. C.File.count b) body.old)) (faults_at (C.count cluster.new) (option_map (λ b. C.File.count b) body.new))) }
-        ensures err { OnErr result (Untouched C.File.tells
-            (body_at (C.at cluster.old body_id) (option_map (λ b. C.File.content b) body.old)) (body_at (C.at cluster.new body_id) (option_map (λ b. C.File.content b) body.new))
-            (faults_at (C.count cluster.old) (option_map (λ b. C.File.count b) body.old)) (faults_at (C.count cluster.new) (option_map (λ b. C.File.count b) body.new))) }
-        ensures both_after { OnOk result (is_some body.new ≡ is_some self.new.opened) }
+    /// Forgets the outcomes that were noted.
+    pub fn clear(&mut self)
+        ensures { self.new ≡ record self.old { noted = record self.old.noted { outcomes = []; room = self.new.noted.room } } }
+    {
+        self.trace.clear();
+    }
+
+    /// Creates the body, which is left as it is where it is there already. Takes memory.
+    pub fn make_file(&mut self, cluster: &mut C) -> Stepped
+        requires safe { Safe C.File.tells (C.at cluster.old body_id) None }
+        requires closed { self.old.opened ≡ None }
+        ensures step { IsActed C.File.tells result Make (scene self.old (C.at cluster.old body_id) (C.count cluster.old)) (scene self.new (C.at cluster.new body_id) (C.count cluster.new)) }
+        ensures closed_after { self.new.opened ≡ None }
+        ensures safe_after { Safe C.File.tells (C.at cluster.new body_id) None }
+        ensures home { IsText result → Home C.File.tells (C.at cluster.new body_id) None }
         ensures others { C.File.tells → (q : ObjectId) → q ≢ body_id → C.at cluster.new q ≡ C.at cluster.old q }
-        ensures home_after { Home C.File.tells (C.at cluster.new body_id) (option_map (λ b. C.File.mark b) body.new) }
+        ensures event { self.new.noted.event ≡ self.old.noted.event }
+        ensures cause { result ≡ Stepped.StoreFault → Rose (C.count cluster.old) (C.count cluster.new) }
     {
-        if self.context.is_some() {
-            return Ok(true);
+        if self.trace.reserve(NOTES).is_err() {
+            return Stepped::NoMemory;
         }
-        let Ok(file) = cluster.take_file(BODY) else {
-            return Ok(false);
-        };
-        let base = file.len();
-        *body = Some(file);
-        self.context = Some(OpenFile::new(alloc, base)?);
-        Ok(true)
-    }
-
-    /// A WRITE of the open file.
-    fn take_in(
-        &mut self,
-        alloc: Global,
-        call: WriteCall,
-        ticket: Ticket,
-    ) -> Result<String, AllocError>
-        requires open { IsTrue (is_some self.old.opened) }
-        requires few { length call.content ≤ 1048576 }
-        requires below { call.offset + length call.content < 2 ^ 63 }
-        ensures open_after { OnOk result (is_some self.new.opened ≡ true) }
-        ensures takes { IfOk result (λ text. TakesIn ticket.number call self.old.opened self.old.desk self.new (string_bytes text)) }
-    {
-        let Some(file) = &mut self.context else {
-            unreachable!();
-        };
-        match file.write(call, ticket) {
-            Verdict::Reply(answer) => self.answer(alloc, answer),
-            Verdict::Held => Ok(String::new(alloc)),
-            Verdict::Dropped(ticket) => {
-                self.desk.drop_ticket(ticket);
-                Ok(String::new(alloc))
+        match cluster.create(BODY) {
+            Ok(()) => {
+                self.trace.note(Outcome::Done);
+                Stepped::Text(String::new(self.alloc))
             }
-            Verdict::NoMemory(_) => Err(AllocError),
+            Err(CreateFault::Fault) => {
+                self.trace.note(Outcome::Failed { kept: 0 });
+                Stepped::StoreFault
+            }
+            Err(CreateFault::Memory) => Stepped::NoMemory,
         }
     }
 
-    /// A request is answered at once.
-    pub fn say(
-        &mut self,
-        alloc: Global,
-        conn: u32,
-        xid: u32,
-        reply: &[u8],
-    ) -> Result<String, AllocError>
-        ensures said { IfOk result (λ text. IsQuiet (Says conn xid reply.now) self.old self.new (string_bytes text)) }
-        ensures open { is_some self.new.opened ≡ is_some self.old.opened }
+    // A request begins: it gets its number and its ticket.
+    fn ask(&mut self, conn: u32, xid: u32) -> Result<Ticket, AllocError>
+        ensures ok { IfOk result (λ ticket. IsAsked conn xid NOTES ticket self.old self.new) }
+        ensures err { OnErr result (SameButRoom self.old self.new) }
     {
-        let body = Body::Text(Vec::from_slice(alloc, reply)?);
+        if self.trace.reserve(NOTES).is_err() {
+            return Err(AllocError);
+        }
         let Ok(ticket) = self.desk.issue(conn, xid) else {
             return Err(AllocError);
         };
+        self.trace.begin_request();
+        Ok(ticket)
+    }
+
+    // Sends an answer, and gives what it writes.
+    fn send(&mut self, answer: Answer) -> Result<String, AllocError>
+        requires plain { IsPlain answer.body }
+        ensures kept { self.new ≡ sent (answer_of answer ∷ []) self.old }
+        ensures text { IfOk result (λ text. string_bytes text ≡ (send self.old.desk (answer_of answer ∷ [])).text) }
+    {
+        send_one(self.alloc, &mut self.desk, answer)
+    }
+
+    // Memory was refused for the request of this ticket.
+    fn refuse(&mut self, ticket: Ticket) -> Result<String, AllocError>
+        requires room { 0 < self.old.noted.room }
+        ensures kept { self.new ≡ refusing ticket.number self.old }
+        ensures text { IfOk result (λ text. string_bytes text ≡ (send self.old.desk (record { ticket = ticket.number; body = SystemErr } ∷ [])).text) }
+    {
+        self.trace.refuse();
+        let body = Body::SystemErr;
+        self.send(Answer { ticket, body })
+    }
+
+    // Spends what a request of the open file was answered.
+    fn conclude(&mut self, verdict: Verdict) -> Result<String, AllocError>
+        requires plain { ArePlainIn verdict }
+        requires room { 0 < self.old.noted.room }
+        ensures kept { self.new ≡ record (sent (answers_of verdict) self.old) { noted = noted_by (is_refusal verdict) self.old.noted } }
+        ensures text { IfOk result (λ text. string_bytes text ≡ (send self.old.desk (answers_of verdict)).text) }
+    {
+        if let Verdict::NoMemory(_) = &verdict {
+            self.trace.refuse();
+        }
+        conclude(self.alloc, &mut self.desk, verdict)
+    }
+
+    /// Memory was refused while a request was read.
+    pub fn refuse_request(&mut self, conn: u32, xid: u32) -> Result<String, AllocError>
+        ensures ok { (act : Act) → IsRequest act conn xid → (s : ObjectState) (n : ℕ) → IfOk result (λ text. IsStep C.File.tells act (scene self.old s n) (scene self.new s n) (string_bytes text) false) }
+        ensures err { (act : Act) (s : ObjectState) (n : ℕ) → OnErr result (IsCut C.File.tells act (scene self.old s n) (scene self.new s n)) }
+        ensures opened { self.new.opened ≡ self.old.opened }
+        ensures event { self.new.noted.event ≡ self.old.noted.event }
+    {
+        let ticket = self.ask(conn, xid)?;
+        self.refuse(ticket)
+    }
+
+    /// A request is answered at once.
+    pub fn say(&mut self, conn: u32, xid: u32, reply: &[u8]) -> Result<String, AllocError>
+        ensures ok { (s : ObjectState) (n : ℕ) → IfOk result (λ text. IsStep C.File.tells (Says conn xid reply.now) (scene self.old s n) (scene self.new s n) (string_bytes text) false) }
+        ensures err { (s : ObjectState) (n : ℕ) → OnErr result (IsCut C.File.tells (Says conn xid reply.now) (scene self.old s n) (scene self.new s n)) }
+        ensures opened { self.new.opened ≡ self.old.opened }
+        ensures event { self.new.noted.event ≡ self.old.noted.event }
+    {
+        let ticket = self.ask(conn, xid)?;
+        let Ok(text) = Vec::from_slice(self.alloc, reply) else {
+            return self.refuse(ticket);
+        };
+        let body = Body::Text(text);
         match self.desk.send(Answer { ticket, body }) {
-            Sent::Reply { conn, xid: _, body } => said_text(alloc, conn, body),
-            Sent::Cancelled => Ok(String::new(alloc)),
+            Sent::Reply { conn, xid: _, body } => said_text(self.alloc, conn, body),
+            Sent::Cancelled => Ok(String::new(self.alloc)),
         }
     }
 
     /// A connection ends: none of its requests is answered any more.
-    pub fn end(&mut self, alloc: Global, conn: u32) -> Result<String, AllocError>
-        ensures ended { IfOk result (λ text. IsQuiet (Ends conn) self.old self.new (string_bytes text)) }
-        ensures open { is_some self.new.opened ≡ is_some self.old.opened }
+    pub fn end(&mut self, conn: u32) -> Result<String, AllocError>
+        ensures ok { (s : ObjectState) (n : ℕ) → IfOk result (λ text. IsStep C.File.tells (Ends conn) (scene self.old s n) (scene self.new s n) (string_bytes text) false) }
+        ensures err { (s : ObjectState) (n : ℕ) → OnErr result (IsCut C.File.tells (Ends conn) (scene self.old s n) (scene self.new s n)) }
+        ensures opened { self.new.opened ≡ self.old.opened }
+        ensures event { self.new.noted.event ≡ self.old.noted.event }
     {
-        let text = closed_text(alloc, conn)?;
         self.desk.cancel_conn(conn);
-        Ok(text)
+        closed_text(self.alloc, conn)
     }
 
-    /// A WRITE.
-    pub fn write<C: Cluster>(
+    // The first write of a file that was just opened. It is closed again where memory is refused.
+    fn write_first(
         &mut self,
-        alloc: Global,
+        mut cell: FileCell<C::File, SortedVecMap>,
+        request: WriteReq,
+        cluster: &mut C,
+    ) -> Result<String, AllocError>
+    {
+        match cell.write(request) {
+            Verdict::NoMemory(ticket) => {
+                cluster.give_file(BODY, cell.into_parts().body);
+                self.refuse(ticket)
+            }
+            verdict => {
+                self.cell = Some(cell);
+                self.conclude(verdict)
+            }
+        }
+    }
+
+    // A WRITE of the file that isn't open.
+    fn open_and_write(
+        &mut self,
+        request: WriteReq,
+        cluster: &mut C,
+    ) -> Result<String, AllocError>
+    {
+        match open_file(self.alloc, cluster, &mut self.trace) {
+            Ok(cell) => self.write_first(cell, request, cluster),
+            Err(Failure::Store) => self.send(not_written(request.ticket, NFS3ERR_IO)),
+            Err(Failure::Memory) => self.refuse(request.ticket),
+        }
+    }
+
+    /// A WRITE. The first one opens the file.
+    pub fn write(
+        &mut self,
         conn: u32,
         call: WriteCall,
         cluster: &mut C,
-        body: &mut Option<C::File>,
     ) -> Result<String, AllocError>
-        requires both { is_some body.old ≡ is_some self.old.opened }
-        requires home { Home C.File.tells (C.at cluster.old body_id) (option_map (λ b. C.File.mark b) body.old) }
+        requires home { Home C.File.tells (C.at cluster.old body_id) self.old.opened }
         requires few { length call.content ≤ 1048576 }
         requires below { call.offset + length call.content < 2 ^ 63 }
-        ensures ok { IfOk result (λ text. IsStep C.File.tells (Writes conn call) self.old self.new (string_bytes text) false
-            (body_at (C.at cluster.old body_id) (option_map (λ b. C.File.content b) body.old)) (body_at (C.at cluster.new body_id) (option_map (λ b. C.File.content b) body.new))
-            (faults_at (C.count cluster.old) (option_map (λ b. C.File.count b) body.old)) (faults_at (C.count cluster.new) (option_map (λ b. C.File.count b) body.new))) }
-        ensures err { OnErr result (Untouched C.File.tells
-            (body_at (C.at cluster.old body_id) (option_map (λ b. C.File.content b) body.old)) (body_at (C.at cluster.new body_id) (option_map (λ b. C.File.content b) body.new))
-            (faults_at (C.count cluster.old) (option_map (λ b. C.File.count b) body.old)) (faults_at (C.count cluster.new) (option_map (λ b. C.File.count b) body.new))) }
-        ensures both_after { OnOk result (is_some body.new ≡ is_some self.new.opened) }
+        ensures ok { IfOk result (λ text. IsStep C.File.tells (Writes conn call) (scene self.old (C.at cluster.old body_id) (C.count cluster.old)) (scene self.new (C.at cluster.new body_id) (C.count cluster.new)) (string_bytes text) false) }
+        ensures err { OnErr result (IsCut C.File.tells (Writes conn call) (scene self.old (C.at cluster.old body_id) (C.count cluster.old)) (scene self.new (C.at cluster.new body_id) (C.count cluster.new))) }
+        ensures home_after { Home C.File.tells (C.at cluster.new body_id) self.new.opened }
         ensures others { C.File.tells → (q : ObjectId) → q ≢ body_id → C.at cluster.new q ≡ C.at cluster.old q }
-        ensures home_after { Home C.File.tells (C.at cluster.new body_id) (option_map (λ b. C.File.mark b) body.new) }
+        ensures event { self.new.noted.event ≡ self.old.noted.event }
     {
-        let Ok(ticket) = self.desk.issue(conn, call.xid) else {
-            return Err(AllocError);
+        let ticket = self.ask(conn, call.xid)?;
+        let request = WriteReq {
+            offset: call.offset,
+            stable: Stable::Unstable,
+            bytes: call.content,
+            ticket,
+            moment: 0,
         };
-        if !self.open(alloc, cluster, body)? {
-            return self.answer(alloc, refused(ticket, IO));
+        match &mut self.cell {
+            Some(cell) => {
+                let verdict = cell.write(request);
+                self.conclude(verdict)
+            }
+            None => self.open_and_write(request, cluster),
         }
-        self.take_in(alloc, call, ticket)
+    }
+
+    // A READ of the file that isn't open.
+    fn read_closed(
+        &mut self,
+        call: ReadCall,
+        ticket: Ticket,
+        cluster: &mut C,
+    ) -> Result<String, AllocError>
+    {
+        match read_body(self.alloc, cluster, &mut self.trace, call.offset, call.count) {
+            Ok(part) => self.send(read_answer(ticket, NFS3_OK, part.eof, part.bytes)),
+            Err(Failure::Store) => {
+                self.send(read_answer(ticket, NFS3ERR_IO, false, Vec::new(self.alloc)))
+            }
+            Err(Failure::Memory) => self.refuse(ticket),
+        }
+    }
+
+    /// A READ.
+    pub fn read(
+        &mut self,
+        conn: u32,
+        call: ReadCall,
+        cluster: &mut C,
+    ) -> Result<String, AllocError>
+        requires home { Home C.File.tells (C.at cluster.old body_id) self.old.opened }
+        ensures ok { IfOk result (λ text. IsStep C.File.tells (Reads conn call) (scene self.old (C.at cluster.old body_id) (C.count cluster.old)) (scene self.new (C.at cluster.new body_id) (C.count cluster.new)) (string_bytes text) false) }
+        ensures err { OnErr result (IsCut C.File.tells (Reads conn call) (scene self.old (C.at cluster.old body_id) (C.count cluster.old)) (scene self.new (C.at cluster.new body_id) (C.count cluster.new))) }
+        ensures home_after { Home C.File.tells (C.at cluster.new body_id) self.new.opened }
+        ensures others { C.File.tells → (q : ObjectId) → q ≢ body_id → C.at cluster.new q ≡ C.at cluster.old q }
+        ensures event { self.new.noted.event ≡ self.old.noted.event }
+    {
+        let ticket = self.ask(conn, call.xid)?;
+        match &mut self.cell {
+            Some(cell) => {
+                let verdict = cell.read(ReadReq {
+                    offset: call.offset,
+                    count: call.count,
+                    ticket,
+                    moment: 0,
+                });
+                self.conclude(verdict)
+            }
+            None => self.read_closed(call, ticket, cluster),
+        }
     }
 
     /// The first job of the open file is done.
-    pub fn turn<F: AppendFile>(
-        &mut self,
-        alloc: Global,
-        body: &mut Option<F>,
-    ) -> Result<String, AllocError>
-        requires both { is_some body.old ≡ is_some self.old.opened }
-        ensures ok { (s : ObjectState) (n : ℕ) → IfOk result (λ text. IsStep F.tells Turns self.old self.new (string_bytes text) false
-            (body_at s (option_map (λ b. F.content b) body.old)) (body_at s (option_map (λ b. F.content b) body.new))
-            (faults_at n (option_map (λ b. F.count b) body.old)) (faults_at n (option_map (λ b. F.count b) body.new))) }
-        ensures err { (s : ObjectState) (n : ℕ) → OnErr result (IsCut F.tells Turns self.old
-            (body_at s (option_map (λ b. F.content b) body.old)) (body_at s (option_map (λ b. F.content b) body.new))
-            (faults_at n (option_map (λ b. F.count b) body.old)) (faults_at n (option_map (λ b. F.count b) body.new))) }
-        ensures both_after { is_some body.new ≡ is_some self.new.opened }
-        ensures same { option_map (λ b. F.mark b) body.new ≡ option_map (λ b. F.mark b) body.old }
+    pub fn turn(&mut self) -> Result<String, AllocError>
+        ensures ok { (s : ObjectState) (n : ℕ) → IfOk result (λ text. IsStep C.File.tells Turns (scene self.old s n) (scene self.new s n) (string_bytes text) false) }
+        ensures err { (s : ObjectState) (n : ℕ) → OnErr result (IsCut C.File.tells Turns (scene self.old s n) (scene self.new s n)) }
+        ensures mark { SameFile self.old.opened self.new.opened }
+        ensures event { self.new.noted.event ≡ self.old.noted.event }
     {
-        let Some(file) = &mut self.context else {
-            return Ok(String::new(alloc));
-        };
-        let Some(body) = body else {
-            unreachable!();
-        };
-        match file.turn(body) {
-            Some(answer) => self.answer(alloc, answer),
-            None => Ok(String::new(alloc)),
+        if self.trace.reserve(NOTES).is_err() {
+            return Err(AllocError);
         }
+        let Some(cell) = &mut self.cell else {
+            return Ok(String::new(self.alloc));
+        };
+        cell.write_step(&mut self.trace);
+        let answer = cell.next_answer();
+        // A READ that found no memory.
+        if let Some(Answer {
+            body: Body::SystemErr,
+            ..
+        }) = &answer
+        {
+            self.trace.refuse();
+        }
+        let text = match answer {
+            Some(answer) => send_one(self.alloc, &mut self.desk, answer),
+            None => Ok(String::new(self.alloc)),
+        };
+        send_left(self.alloc, &mut self.desk, cell, text)
     }
 
-    /// The history of the open file at the end of the transcript, which is empty where none is open. Takes memory.
-    pub fn history(&self, alloc: Global) -> Result<String, AllocError>
-        ensures { IfOk result (λ text. string_bytes text ≡ end_history self.now.opened) }
+    /// The open file hears of its writer, and sends what is ready.
+    pub fn pump(&mut self) -> Result<String, AllocError>
+        ensures ok { (s : ObjectState) (n : ℕ) → IfOk result (λ text. IsStep C.File.tells Pumps (scene self.old s n) (scene self.new s n) (string_bytes text) false) }
+        ensures err { (s : ObjectState) (n : ℕ) → OnErr result (IsCut C.File.tells Pumps (scene self.old s n) (scene self.new s n)) }
+        ensures mark { SameFile self.old.opened self.new.opened }
+        ensures event { self.new.noted.event ≡ self.old.noted.event }
     {
-        match &self.context {
-            Some(file) => file.history(alloc),
-            None => Ok(String::new(alloc)),
-        }
+        let Some(cell) = &mut self.cell else {
+            return Ok(String::new(self.alloc));
+        };
+        cell.pump_step();
+        send_left(
+            self.alloc,
+            &mut self.desk,
+            cell,
+            Ok(String::new(self.alloc)),
+        )
+    }
+
+    /// Gives the body back to the store, if it was taken, and what the history of the open file is written from.
+    pub fn finish(self, cluster: &mut C) -> Option<Ended>
+        requires safe { Safe C.File.tells (C.at cluster.old body_id) self.opened }
+        ensures bytes { C.File.tells → bytes_of (C.at cluster.new body_id) ≡ body_at (C.at cluster.old body_id) self.opened }
+        ensures home { C.File.tells → IsAway (C.at cluster.new body_id) → ⊥ }
+        ensures others { C.File.tells → (q : ObjectId) → q ≢ body_id → C.at cluster.new q ≡ C.at cluster.old q }
+        ensures count { GivesBack (C.count cluster.old) self.opened (C.count cluster.new) }
+        ensures history { (body : List ℕ) (w : WorldState) → IsOpen self.opened body w → history_left result ≡ end_text w.opened }
+    {
+        let cell = self.cell?;
+        let closed = cell.into_parts();
+        cluster.give_file(BODY, closed.body);
+        Some(closed.ended)
     }
 }

@@ -1,0 +1,51 @@
+-- What a request takes as it begins, what the desk sends, and what is left of the file at the end.
+use Rattle.std.specs.Prelude.{◌≡◌, ℕ, ◌-◌, ◌^◌, ◌<◌, ◌≤◌, Bool, true, false, List, [], ◌∷◌, Option, None, Some}
+use Rattle.gw_model.specs.Ahead.{NoMemory}
+use Rattle.gw_model.specs.File.{Answer, SystemErr}
+use Rattle.gw_model.specs.Ending.{Ended as AtEnd}
+use Rattle.gw_model.specs.Views.{Noted, next_request, with_note}
+use Rattle.tickets.specs.Desk.{TicketId, DeskState, issued, next_ticket}
+use Rattle.admit.specs.Answers.{IsPlain}
+use Rattle.admit.specs.declared.request.Verdict.{Verdict}
+use Rattle.admit.specs.declared.request.Verdict.TheVariants as verdict
+use Rattle.file_cell.specs.State.{CellState}
+use Rattle.file_cell.specs.declared.closed.Ended.{Ended}
+use Rattle.file_cell.specs.History.{history_of_ended, history_text}
+use Rattle.nfsgw.specs.World.{defaults, send}
+use Rattle.nfsgw.specs.Outside.{Kept}
+
+-- the one file, with no answer left
+abbrev pub IsReady : Option CellState → Type 0
+IsReady None = Unit {0}
+IsReady (Some c) = (c.left ≡ []) × (c.limits ≡ defaults) × (c.id ≡ 4)
+
+-- A request has the next number of its event, and the next ticket; there is room for the notes that it may make.
+pub record IsAsked (conn xid notes : ℕ) (ticket : TicketId) (old new : Kept) : Type 0 where
+  pub opened : new.opened ≡ old.opened
+  pub desk : new.desk ≡ issued conn xid old.desk
+  pub noted : new.noted ≡ record (next_request old.noted) { room = new.noted.room }
+  pub ticket_is : ticket ≡ next_ticket conn xid old.desk
+  pub room : notes ≤ new.noted.room
+  pub counted : old.noted.request < 2 ^ 64 - 1
+
+-- only the room may have grown
+abbrev pub SameButRoom : Kept → Kept → Type 0
+SameButRoom old new = new ≡ record old { noted = record old.noted { room = new.noted.room } }
+
+-- answers are sent
+abbrev pub sent : List Answer → Kept → Kept
+sent answers k = record k { desk = (send k.desk answers).desk }
+
+-- memory is refused for a request
+abbrev pub refusing : ℕ → Kept → Kept
+refusing ticket k = record (sent (record { ticket = ticket; body = SystemErr } ∷ []) k) { noted = with_note (NoMemory k.noted.event k.noted.request) k.noted }
+
+-- answers of a verdict can be sent
+abbrev pub ArePlainIn : Verdict → Type 0
+ArePlainIn (verdict.Reply a) = IsPlain a.body
+ArePlainIn _ = Unit {0}
+
+-- the history at the end
+abbrev pub history_left : Option Ended → List ℕ
+history_left None = []
+history_left (Some e) = history_text 4 (history_of_ended e AtEnd)
