@@ -1,15 +1,19 @@
 -- What a call means for the file that a cell stands for.
-use Rattle.std.proofs.Common.{◌≡◌, ℕ, ◌<◌, true, nat_lt, Option, None, List, [], ◌∷◌, ◌++◌, length, drop, refl, sym, ◌∙◌, ap, subst, arith}
+use Rattle.std.proofs.Common.{◌≡◌, ℕ, ◌+◌, ◌<◌, ◌≤◌, Bool, true, false, nat_lt, Option, None, List, [], ◌∷◌, ◌++◌, length, take, drop, refl, sym, ◌∙◌, ap, subst, append-nil, arith}
+use Rattle.std.proofs.lemmas.List.{length-take, take_min}
+use Rattle.std.proofs.Math.Seq.{take-length}
 use Rattle.gw_model.specs.declared.FileId.{FileId}
-use Rattle.gw_model.specs.Order.{fold}
-use Rattle.gw_model.specs.Ahead.{Ahead}
+use Rattle.gw_model.specs.Order.{fold, joined}
+use Rattle.gw_model.specs.Ahead.{Ahead, Called, Good, Bad}
 use Rattle.gw_model.specs.File as model
-use Rattle.gw_model.specs.File.{Failure, File, Side, Step, Writer}
-use Rattle.gw_model.specs.Admission.{pump, pump_with, read, write}
+use Rattle.gw_model.specs.File.{Failure, File, Side, Step, Writer, content}
+use Rattle.gw_model.specs.Admission.{held, pump, pump_with, read, write}
 use Rattle.gw_model.specs.Sides.{Stands, Told, side_turn}
-use Rattle.gw_model.specs.Sound.{IsIssued, IsStored}
+use Rattle.gw_model.specs.Sound.{IsIssued, IsStored, pieces_of}
 use Rattle.gw_model.specs.Views.{Noted}
 use Rattle.gw_model.specs.Writer.{do_job, room, told, turn, turn_if, turn_in, turned}
+use Rattle.gw_model.proofs.Below.{open_below, pump_below, read_below, turn_adds, turn_below, turn_reads, write_below}
+use Rattle.gw_model.proofs.Contents.{open_content, pump_content, read_content, write_content}
 use Rattle.gw_model.proofs.Givings.{open_stands}
 use Rattle.gw_model.proofs.Keeping.{opened_issues, pump_issues, read_issues, turn_issues, write_issues}
 use Rattle.gw_model.proofs.Storing.{next_put_appends, open_stores, pump_same, read_same, same_stores, turn_stores, write_same}
@@ -31,11 +35,11 @@ use Rattle.admit.specs.declared.request.WriteReq.{WriteReq}
 use Rattle.admit.specs.declared.request.ReadReq.{ReadReq}
 use Rattle.admit.specs.declared.request.News.{News}
 use Rattle.writeback.specs.Answers.{answers_of, job_of}
-use Rattle.writeback.specs.State.{WriterState}
-use Rattle.writeback.specs.Steps.{IsNext, Works, before, is_want, past}
+use Rattle.writeback.specs.State.{FileSeen, WriterState}
+use Rattle.writeback.specs.Steps.{IsNext, Reads, Works, added_by, before, is_want, past, put_by}
 use Rattle.file_cell.specs.State.{CellState, IntakeState, cell_of, intake_of, with_line}
 use Rattle.file_cell.specs.Steps.{writer_of}
-use Rattle.file_cell.specs.Files.{Fetches, FetchesOn, OpenLaw, Pumps, PumpsOn, StandsFor, TurnsFor, Writes, WritesOn}
+use Rattle.file_cell.specs.Files.{Fetches, FetchesOn, Idles, Leads, OpenLaw, Pumps, PumpsOn, StandsFor, TurnsFor, Writes, WritesOn}
 use Rattle.file_cell.proofs.None.{none_synced, none_turned}
 
 -- The admission side alone.
@@ -66,37 +70,54 @@ fetches_on v r t old a b o side limits heard is law goes =
     let there = subst (λ (s : Side). FetchesOn v a.limits a.side r s) shown on in
     subst (λ n. FetchesOn v n old.side r (intake_of b o).side) limits (subst (λ (s : Side). FetchesOn v a.limits s r (intake_of b o).side) side there)
 
--- The whole cell: a request leaves the writer.
+-- The whole cell: a request leaves the writer and the file.
 
-writes_still : (v : Verdict) (r : WriteReq) (old new : CellState) → new.writer ≡ old.writer → WritesOn v old.limits old.side r new.side → Writes v old r new
-writes_still v r old new writer on f t h e =
+told_same : {a b : FileSeen} → b ≡ a → b.content ≡ a.content
+told_same same = ap (λ (x : FileSeen). x.content) same
+
+writes_still : (v : Verdict) (r : WriteReq) (old new : CellState) → new.writer ≡ old.writer → new.file ≡ old.file → WritesOn v old.limits old.side r new.side → Writes v old r new
+writes_still v r old new writer file on f t h e =
     let go = on f t h.side e in
     let step = write old.limits f (write_request r) t in
     let same = write_same old.limits f (write_request r) t in
     record {
-      stands = record { side = go.0; writer = writer ∙ h.writer ∙ sym same.writer; issued = write_issues old.limits f (write_request r) t h.issued; stored = same_stores f step.file same h.stored };
+      stands = record {
+        side = go.0;
+        writer = writer ∙ h.writer ∙ sym same.writer;
+        issued = write_issues old.limits f (write_request r) t h.issued;
+        stored = same_stores f step.file same h.stored;
+        below = write_below old.limits f (write_request r) t h.issued h.below;
+        content = told_same file ∙ h.content ∙ sym (write_content old.limits f (write_request r) t h.below);
+      };
       answers = go.1;
       ahead = go.2;
     }
 
-fetches_still : (v : Verdict) (r : ReadReq) (old new : CellState) → new.writer ≡ old.writer → FetchesOn v old.limits old.side r new.side → Fetches v old r new
-fetches_still v r old new writer on f t h e =
+fetches_still : (v : Verdict) (r : ReadReq) (old new : CellState) → new.writer ≡ old.writer → new.file ≡ old.file → FetchesOn v old.limits old.side r new.side → Fetches v old r new
+fetches_still v r old new writer file on f t h e =
     let go = on f t h.side e in
     let step = read old.limits f (read_request r) t in
     let same = read_same old.limits f (read_request r) t in
     record {
-      stands = record { side = go.0; writer = writer ∙ h.writer ∙ sym same.writer; issued = read_issues old.limits f (read_request r) t h.issued; stored = same_stores f step.file same h.stored };
+      stands = record {
+        side = go.0;
+        writer = writer ∙ h.writer ∙ sym same.writer;
+        issued = read_issues old.limits f (read_request r) t h.issued;
+        stored = same_stores f step.file same h.stored;
+        below = read_below old.limits f (read_request r) t h.below;
+        content = told_same file ∙ h.content ∙ sym (read_content old.limits f (read_request r) t h.below);
+      };
       answers = go.1;
       ahead = go.2;
     }
 
 pub writes : (v : Verdict) (r : WriteReq) (id : FileId) (base : ℕ) (i n : IntakeState) (w : WriterState) (answered : Option Answer) (old : CellState) → cell_of id base i w answered ≡ old → WritesOn v i.limits i.side r n.side → Writes v old r (cell_of id base n w answered)
 writes v r id base i n w answered old is on =
-    subst (λ (c : CellState). Writes v c r (cell_of id base n w answered)) is (writes_still v r (cell_of id base i w answered) (cell_of id base n w answered) refl on)
+    subst (λ (c : CellState). Writes v c r (cell_of id base n w answered)) is (writes_still v r (cell_of id base i w answered) (cell_of id base n w answered) refl refl on)
 
 pub fetches : (v : Verdict) (r : ReadReq) (id : FileId) (base : ℕ) (i n : IntakeState) (w : WriterState) (answered : Option Answer) (old : CellState) → cell_of id base i w answered ≡ old → FetchesOn v i.limits i.side r n.side → Fetches v old r (cell_of id base n w answered)
 fetches v r id base i n w answered old is on =
-    subst (λ (c : CellState). Fetches v c r (cell_of id base n w answered)) is (fetches_still v r (cell_of id base i w answered) (cell_of id base n w answered) refl on)
+    subst (λ (c : CellState). Fetches v c r (cell_of id base n w answered)) is (fetches_still v r (cell_of id base i w answered) (cell_of id base n w answered) refl refl on)
 
 -- A turn.
 
@@ -111,40 +132,92 @@ starts f (Compare offset bytes level ticket) start js issued stored line = (f.wr
 starts f (Fetch offset count ticket) start js issued stored line = (f.writer.stored, λ works. refl, refl)
 starts f (Settle ticket) start js issued stored line = (f.writer.stored, λ works. refl, refl)
 
+-- the content is just what it has
+reads_own : (tells : Type 0) (j : Job) (w : Writer) (bytes : List ℕ) → tells → Reads tells j w bytes bytes
+reads_own tells (Put number bytes level count ticket) w all told = tt
+reads_own tells (Compare offset bytes level ticket) w all told = (told, refl)
+reads_own tells (Fetch offset count ticket) w all told = (told, refl)
+reads_own tells (Settle ticket) w all told = tt
+
+-- what calls add of some bytes is a front of them
+added_front : (calls : List Called) (bytes : List ℕ) → added_by calls bytes ≡ take (length (added_by calls bytes)) bytes
+added_front [] bytes = refl
+added_front (Good ∷ calls) bytes = sym (take-length bytes)
+added_front (Bad kept ∷ calls) bytes = sym (ap (λ n. take n bytes) (length-take kept bytes) ∙ take_min kept bytes)
+
+put_front : (calls : List Called) (j : Job) (start : ℕ) → take (length (put_by calls j)) (joined (pieces_of (model_job start j ∷ []))) ≡ put_by calls j
+put_front calls (Put number bytes level count ticket) start = ap (take (length (added_by calls bytes))) (append-nil bytes) ∙ sym (added_front calls bytes)
+put_front calls (Compare offset bytes level ticket) start = refl
+put_front calls (Fetch offset count ticket) start = refl
+put_front calls (Settle ticket) start = refl
+
 pub turn_stands : (tells : Type 0) (old new : CellState) (noted noted' : Noted) (job : Job) (start : ℕ) → length old.writer.owed < 1024 → old.side.held.line ≡ model_job start job ∷ drop 1 old.side.held.line
     → (x : Works tells job new.left (writer_of old) (writer_of new) noted noted') → new.side ≡ side_turn (length old.writer.owed) old.side → TurnsFor tells job x.calls old new
-turn_stands tells old new noted noted' job start low first x moved f t h reads memory =
+turn_stands tells old new noted noted' job start low first x moved told_by f t h memory =
     let js = drop 1 old.side.held.line in
     let j = model_job start job in
     let u = before x.calls t in
-    let all = fold f.base f.accepted in
+    let bytes = old.file.content in
     let rest = past (is_want new.left) t in
     let line : f.held.line ≡ j ∷ js = ap (λ (s : Side). s.held.line) (sym h.side.is) ∙ first in
     let at = starts f job start js h.issued h.stored line in
     let next = subst (λ (w : Writer). IsNext w at.0) (sym h.writer) at.1 in
-    let did : do_job j all f.writer u ≡ told new.writer new.left rest =
-    ap (λ k. do_job k all f.writer u) (sym at.2) ∙ ap (λ (w : Writer). do_job (job_of at.0 None job) all w u) (sym h.writer) ∙ x.next at.0 None next all reads t memory in
+    let did : do_job j (fold f.base f.accepted) f.writer u ≡ told new.writer new.left rest =
+    sym (turn_reads f j js u h.stored h.below line)
+    ∙ ap (λ bs. do_job j bs f.writer u) (sym h.content)
+    ∙ ap (λ k. do_job k bytes f.writer u) (sym at.2)
+    ∙ ap (λ (w : Writer). do_job (job_of at.0 None job) bytes w u) (sym h.writer)
+    ∙ x.next at.0 None next bytes (reads_own tells job old.writer bytes told_by) t memory in
     let few : length f.writer.owed < 1024 = subst (λ (w : Writer). length w.owed < 1024) h.writer low in
     let free : nat_lt (length f.writer.owed) room ≡ true = grind (arith, few) in
     let is = turn_is f u j js free line ∙ ap (turned f j js) did in
     let side = moved ∙ ap (λ (w : Writer). side_turn (length w.owed) old.side) h.writer in
+    let put = put_by x.calls job in
+    let more : (turn f u).file.writer.stored ≡ f.writer.stored + length put = ap (λ (s : Step). s.file.writer.stored) is ∙ x.stored ∙ ap (λ (w : Writer). w.stored + length put) h.writer in
+    let added : content (turn f u).file ≡ content f ++ put =
+    turn_adds f u (length put) h.issued h.stored more
+    ∙ ap (λ ks. content f ++ take (length put) (joined (pieces_of (take 1 ks)))) line
+    ∙ ap (λ bs. content f ++ bs) (put_front x.calls job start) in
     record {
       stands = record {
         side = subst (λ (s : Side). Stands s (turn f u).file) (sym side) (turn_leads old.side f u h.side);
         writer = sym (ap (λ (s : Step). s.file.writer) is);
         issued = turn_issues f u h.issued;
         stored = turn_stores f u h.issued h.stored;
+        below = turn_below f u h.issued h.stored h.below;
+        content = x.file.content told_by ∙ ap (λ bs. bs ++ put) h.content ∙ sym added;
       };
       answers = ap (λ (s : Step). s.answers) is;
       ahead = ap (λ (s : Step). s.ahead) is;
     }
 
+-- A turn that does nothing.
+
+still_leads : (c : CellState) (f : File) (t : Ahead) → c.left ≡ [] → StandsFor c f → turn f t ≡ held f t → Leads (turn f t) c t
+still_leads c f t none h is = subst (λ (s : Step). Leads s c t) (sym is) (record { stands = h; answers = sym none; ahead = refl })
+
+pub full_idles : (c : CellState) → c.left ≡ [] → 1024 ≤ length c.writer.owed → Idles c
+unfolding turn
+full_idles c none full f t h =
+    let many : 1024 ≤ length f.writer.owed = subst (λ (w : Writer). 1024 ≤ length w.owed) h.writer full in
+    let shut : nat_lt (length f.writer.owed) room ≡ false = grind (arith, many) in
+    still_leads c f t none h (ap (λ b. turn_if b f t) shut)
+
+pub empty_idles : (c : CellState) → c.left ≡ [] → c.side.held.line ≡ [] → Idles c
+unfolding turn
+empty_idles c none empty f t h =
+    let line : f.held.line ≡ [] = ap (λ (s : Side). s.held.line) (sym h.side.is) ∙ empty in
+    let go : (b : Bool) → turn_if b f t ≡ held f t = elim [ true ↦ ap (λ js. turn_in js f t) line | false ↦ refl ] in
+    still_leads c f t none h (go (nat_lt (length f.writer.owed) room))
+
 pub open_law : OpenLaw
-open_law c base hull moment side writer = record {
+open_law c base hull moment side writer file = record {
   side = subst (λ (s : Side). Stands s (model.opened base hull moment)) (sym side) (open_stands base hull moment);
   writer = writer;
   issued = opened_issues base hull moment;
   stored = open_stores base hull moment;
+  below = open_below base hull moment;
+  content = file ∙ sym (open_content base hull moment);
 }
 
 -- A pump.
@@ -157,14 +230,21 @@ pumps_on news t old a b o side limits heard is law goes =
     let there = subst (λ (s : Side). PumpsOn a.limits (admit.news_of news) a.side s b.left) shown on in
     subst (λ n. PumpsOn n (admit.news_of news) old.side (intake_of b o).side b.left) limits (subst (λ (s : Side). PumpsOn a.limits (admit.news_of news) s (intake_of b o).side b.left) side there)
 
-pumps_still : (news : Option Failure) (old new : CellState) → news ≡ old.writer.failed → new.writer ≡ old.writer → PumpsOn old.limits news old.side new.side new.left → Pumps old new
+pumps_still : (news : Option Failure) (old new : CellState) → news ≡ old.writer.failed → new.writer ≡ old.writer → new.file ≡ old.file → PumpsOn old.limits news old.side new.side new.left → Pumps old new
 unfolding pump
-pumps_still news old new heard writer on f t h =
+pumps_still news old new heard writer file on f t h =
     let told_by : news ≡ f.writer.failed = heard ∙ ap (λ (w : Writer). w.failed) h.writer in
     let go = subst (λ n. PumpsOn old.limits n old.side new.side new.left) told_by on f t h.side in
     let same = pump_same old.limits f.writer.failed f t in
     record {
-      stands = record { side = go.0; writer = writer ∙ h.writer ∙ sym same.writer; issued = pump_issues old.limits f.writer.failed f t h.issued; stored = same_stores f (pump_with old.limits f.writer.failed f t).file same h.stored };
+      stands = record {
+        side = go.0;
+        writer = writer ∙ h.writer ∙ sym same.writer;
+        issued = pump_issues old.limits f.writer.failed f t h.issued;
+        stored = same_stores f (pump_with old.limits f.writer.failed f t).file same h.stored;
+        below = pump_below old.limits f.writer.failed f t h.below;
+        content = told_same file ∙ h.content ∙ sym (pump_content old.limits f.writer.failed f t h.below);
+      };
       answers = go.1;
       ahead = go.2;
     }
@@ -175,4 +255,4 @@ pumps news id base i n w answered old is none heard on =
     let ys = none_synced id base i w answered old is none in
     let left : n.left ≡ answers_of answered ++ w.left ++ n.left = sym (ap (λ zs. zs ++ w.left ++ n.left) xs ∙ ap (λ zs. [] ++ zs ++ n.left) ys) in
     subst (λ (c : CellState). Pumps c (cell_of id base n w answered)) is
-    (pumps_still news (cell_of id base i w answered) (cell_of id base n w answered) heard refl (subst (λ zs. PumpsOn i.limits news i.side n.side zs) left on))
+    (pumps_still news (cell_of id base i w answered) (cell_of id base n w answered) heard refl refl (subst (λ zs. PumpsOn i.limits news i.side n.side zs) left on))

@@ -1,13 +1,12 @@
 -- What an open file stands for, and what its calls mean for that file.
 use Rattle.std.specs.Prelude.{◌≡◌, ℕ, ◌&&◌, List, length, Option}
-use Rattle.gw_model.specs.Order.{fold}
 use Rattle.gw_model.specs.Ahead.{Ahead, Called, refused}
 use Rattle.gw_model.specs.declared.Hull.{Hull}
 use Rattle.gw_model.specs.declared.limits.Limits.{Limits}
-use Rattle.gw_model.specs.File.{Answer, Failure, File, Side, Step, opened}
+use Rattle.gw_model.specs.File.{Answer, Failure, File, Side, Step, content, opened}
 use Rattle.gw_model.specs.Admission.{pump, pump_with, read, write}
 use Rattle.gw_model.specs.Sides.{Stands, side_opened}
-use Rattle.gw_model.specs.Sound.{IsIssued, IsStored}
+use Rattle.gw_model.specs.Sound.{IsBelow, IsIssued, IsStored}
 use Rattle.gw_model.specs.Writer.{turn}
 use Rattle.job_line.specs.declared.items.Job.{Job}
 use Rattle.admit.specs.Calls.{ahead_after, answers_of, is_refusal, read_request, write_request}
@@ -15,7 +14,7 @@ use Rattle.admit.specs.declared.request.Verdict.{Verdict}
 use Rattle.admit.specs.declared.request.WriteReq.{WriteReq}
 use Rattle.admit.specs.declared.request.ReadReq.{ReadReq}
 use Rattle.writeback.specs.State.{fresh}
-use Rattle.writeback.specs.Steps.{Reads, before, is_want, past, takes_memory}
+use Rattle.writeback.specs.Steps.{before, is_want, past, takes_memory}
 use Rattle.file_cell.specs.State.{CellState}
 
 -- The cell is what the program keeps of a file that events led to.
@@ -24,6 +23,9 @@ pub record StandsFor (c : CellState) (f : File) : Type 0 where
   pub writer : c.writer ≡ f.writer
   pub issued : IsIssued f
   pub stored : IsStored f
+  pub below : IsBelow f
+  -- the body tells just what the file has stored
+  pub content : c.file.content ≡ content f
 
 -- the side stands for the file after a step, and the answers and outcomes are the step's
 abbrev pub Goes : Verdict → Ahead → Step → Side → Type 0
@@ -55,11 +57,14 @@ pub record Leads (step : Step) (new : CellState) (t : Ahead) : Type 0 where
   pub answers : step.answers ≡ new.left
   pub ahead : step.ahead ≡ t
 
--- A turn with a job, where the body has the bytes of the file in the range that the job reads, and memory is refused just
--- where it was.
+-- A turn with a job, where the body tells what it holds and memory is refused just where it was.
 abbrev pub TurnsFor : Type 0 → Job → List Called → CellState → CellState → Type 0
-TurnsFor tells j calls old new = (f : File) (t : Ahead) → StandsFor old f → Reads tells j old.writer old.file.content (fold f.base f.accepted) → (takes_memory j && refused t) ≡ is_want new.left
+TurnsFor tells j calls old new = tells → (f : File) (t : Ahead) → StandsFor old f → (takes_memory j && refused t) ≡ is_want new.left
     → Leads (turn f (before calls t)) new (past (is_want new.left) t)
+
+-- A turn of the file does nothing.
+abbrev pub Idles : CellState → Type 0
+Idles c = (f : File) (t : Ahead) → StandsFor c f → Leads (turn f t) c t
 
 -- a pump
 abbrev pub PumpsOn : Limits → Option Failure → Side → Side → List Answer → Type 0
@@ -68,6 +73,6 @@ PumpsOn limits news old new left = (f : File) (t : Ahead) → Stands old f → S
 abbrev pub Pumps : CellState → CellState → Type 0
 Pumps old new = (f : File) (t : Ahead) → StandsFor old f → Leads (pump old.limits f t) new t
 
--- a file that was just opened, with any bytes of that number
+-- a file that was just opened, with the bytes that its body tells
 abbrev pub OpenLaw : Type 0
-OpenLaw = (c : CellState) (base : List ℕ) (hull : Option Hull) (moment : ℕ) → c.side ≡ side_opened (length base) hull moment → c.writer ≡ fresh (length base) → StandsFor c (opened base hull moment)
+OpenLaw = (c : CellState) (base : List ℕ) (hull : Option Hull) (moment : ℕ) → c.side ≡ side_opened (length base) hull moment → c.writer ≡ fresh (length base) → c.file.content ≡ base → StandsFor c (opened base hull moment)

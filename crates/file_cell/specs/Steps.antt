@@ -23,7 +23,7 @@ use Rattle.admit.specs.declared.request.Pumped.TheVariants.{Sent, TurnedStale}
 use Rattle.writeback.specs.Answers.{size_of}
 use Rattle.writeback.specs.State.{FileSeen, WriterState, fresh}
 use Rattle.writeback.specs.Steps.{Works}
-use Rattle.file_cell.specs.Files.{TurnsFor}
+use Rattle.file_cell.specs.Files.{Idles, TurnsFor}
 use Rattle.file_cell.specs.State.{IntakeState, CellState, with_line}
 use Rattle.file_cell.specs.declared.closed.Ended.{Ended}
 use Rattle.file_cell.specs.declared.cell.Stepped.{Stepped}
@@ -108,10 +108,10 @@ pub record Turns (tells : Type 0) (old new : CellState) (noted noted' : Noted) :
   pub rest : new ≡ record old { side = side_turn (length old.writer.owed) old.side; writer = new.writer; file = new.file; left = new.left }
 
 -- A sync comes first exactly where 1,024 tickets wait for one, and else there is nothing to do exactly where the line is
--- empty.
+-- empty. Then a turn of the file does nothing.
 abbrev pub IsStepped : Type 0 → Stepped → CellState → CellState → Noted → Noted → Type 0
-IsStepped tells SyncFirst old new noted noted' = (1024 ≤ length old.writer.owed) × (new ≡ old) × (noted' ≡ noted)
-IsStepped tells Nothing old new noted noted' = (length old.writer.owed < 1024) × (old.side.held.line ≡ []) × (new ≡ old) × (noted' ≡ noted)
+IsStepped tells SyncFirst old new noted noted' = (1024 ≤ length old.writer.owed) × (new ≡ old) × (noted' ≡ noted) × Idles old
+IsStepped tells Nothing old new noted noted' = (length old.writer.owed < 1024) × (old.side.held.line ≡ []) × (new ≡ old) × (noted' ≡ noted) × Idles old
 IsStepped tells Did old new noted noted' = Turns tells old new noted noted'
 
 -- the end

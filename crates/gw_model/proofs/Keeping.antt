@@ -138,10 +138,10 @@ no_front [] ys e = e
 no_front (x ∷ xs) ys e = absurd (cc e)
 
 -- jobs that are sent stay in order
-Moved : List Job → List Job → Lists → Type 0
+unfoldable pub Moved : List Job → List Job → Lists → Type 0
 Moved line ready l = (l.line ++ l.ready ≡ line ++ ready) × (pieces_of ready ≡ [] → pieces_of l.ready ≡ [])
 
-send_moves : (slots : ℕ) (line ready : List Job) → Moved line ready (send slots line ready)
+pub send_moves : (slots : ℕ) (line ready : List Job) → Moved line ready (send slots line ready)
 unfolding Moved
 send_moves slots line [] = (refl, λ e. e)
 send_moves slots line (j ∷ js) = go (nat_lt (length line) slots && not (is_spilled j)) (send_moves slots (line ++ j ∷ []) js)
@@ -316,7 +316,7 @@ pump_one_moves (Loads number start) line ready t go moves = by (refused t)
     by true = (refl, λ e. e)
     by false = loaded_moves (next_call t).called number start line ready (next_call t).ahead go moves
 
-pump_moves : (slots : ℕ) (line ready : List Job) (t : Ahead) → Moved line ready (pump_lists slots line ready t).lists
+pub pump_moves : (slots : ℕ) (line ready : List Job) (t : Ahead) → Moved line ready (pump_lists slots line ready t).lists
 unfolding Moves_on Moved
 pump_moves slots line [] t = (refl, λ e. e)
 pump_moves slots line (j ∷ js) t = pump_one_moves (way slots line j) line (j ∷ js) t (λ u. pump_lists slots (line ++ j ∷ []) js u) (λ u. let rest = pump_moves slots (line ++ j ∷ []) js u in (rest.0 ∙ append_assoc line (j ∷ []) js, λ e. rest.1 (no_front (piece_of j.task) (pieces_of js) e)))

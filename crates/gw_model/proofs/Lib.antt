@@ -11,5 +11,8 @@ pub mod Putting
 pub mod Keeping
 pub mod Storing
 pub mod Growing
+pub mod Comparing
+pub mod Contents
+pub mod Below
 pub mod Cases
 pub mod Rows

@@ -4,13 +4,13 @@ use Rattle.gw_model.specs.declared.Stable.{Stable}
 use Rattle.gw_model.specs.declared.Hull.{Hull}
 use Rattle.gw_model.specs.declared.limits.Limits.{Limits}
 use Rattle.std.specs.List.{list_any}
-use Rattle.gw_model.specs.Order.{Accepted, end_of, standing, covers, Piece, put_in, walk, pieces, fold, reach, hung, kept, let_go_above, beyond, reach_past, IsWellFormed, IsWellFormedAfter}
+use Rattle.gw_model.specs.Order.{Accepted, end_of, standing, covers, Piece, put_in, walk, pieces, joined, fold, reach, hung, kept, let_go_above, beyond, reach_past, IsWellFormed, IsWellFormedAfter}
 use Rattle.gw_model.specs.Ahead.{Ahead, refused}
-use Rattle.gw_model.specs.File.{Cause, Failure, File, Job, Put, content, opened}
+use Rattle.gw_model.specs.File.{Cause, Compare, Failure, File, Job, Put, content, opened}
 use Rattle.gw_model.specs.Admission.{goal_of, WriteRequest, CommitRequest, ReadRequest, write, commit, read, spill, pump_with, turn_stale, no_memory}
-use Rattle.gw_model.specs.Writer.{turn, sync}
+use Rattle.gw_model.specs.Writer.{do_job, range_of, sync, turn}
 use Rattle.gw_model.specs.Ending.{give_up}
-use Rattle.gw_model.specs.Sound.{IsIssued, IsStored, SameWriter}
+use Rattle.gw_model.specs.Sound.{IsBelow, IsIssued, IsStored, SameWriter, pieces_of}
 
 -- The order and the fold.
 
@@ -136,6 +136,81 @@ abbrev pub PutAppends : Type 0
 PutAppends = (f : File) (number start : ℕ) (bytes : List ℕ) (asked : ℕ) (level : Stable) (place ticket : Option ℕ) (rest : List Job)
     → IsIssued f → IsStored f → f.writer.failed ≡ None → f.held.line ≡ record { task = Put number start bytes asked level place; ticket = ticket } ∷ rest
     → (start ≡ f.writer.stored) × ((n : ℕ) → n ≤ length bytes → take (f.writer.stored + n) (fold f.base f.accepted) ≡ content f ++ take n bytes)
+
+-- What is stored, and what comparisons read.
+
+-- A comparison reads below where the Puts issued before it end, and what is stored is below reach, whatever the file meets.
+abbrev pub OpenBelow : Type 0
+OpenBelow = (base : List ℕ) (hull : Option Hull) (moment : ℕ) → IsBelow (opened base hull moment)
+
+abbrev pub WriteBelow : Type 0
+WriteBelow = (limits : Limits) (f : File) (q : WriteRequest) (t : Ahead) → IsIssued f → IsBelow f → IsBelow (write limits f q t).file
+
+abbrev pub CommitBelow : Type 0
+CommitBelow = (limits : Limits) (f : File) (q : CommitRequest) (t : Ahead) → IsBelow f → IsBelow (commit limits f q t).file
+
+abbrev pub ReadBelow : Type 0
+ReadBelow = (limits : Limits) (f : File) (q : ReadRequest) (t : Ahead) → IsBelow f → IsBelow (read limits f q t).file
+
+abbrev pub TurnBelow : Type 0
+TurnBelow = (f : File) (t : Ahead) → IsIssued f → IsStored f → IsBelow f → IsBelow (turn f t).file
+
+abbrev pub SyncBelow : Type 0
+SyncBelow = (f : File) (t : Ahead) → IsBelow f → IsBelow (sync f t).file
+
+abbrev pub SpillBelow : Type 0
+SpillBelow = (limits : Limits) (f : File) (t : Ahead) → IsBelow f → IsBelow (spill limits f t).file
+
+abbrev pub PumpBelow : Type 0
+PumpBelow = (limits : Limits) (news : Option Failure) (f : File) (t : Ahead) → IsBelow f → IsBelow (pump_with limits news f t).file
+
+abbrev pub StaleBelow : Type 0
+StaleBelow = (cause : Cause) (f : File) (t : Ahead) → IsBelow f → IsBelow (turn_stale cause f t).file
+
+abbrev pub GiveUpBelow : Type 0
+GiveUpBelow = (moment : ℕ) (f : File) (t : Ahead) → IsBelow f → IsBelow (give_up moment f t).file
+
+-- The content is the bytes at opening, and only a turn changes it.
+abbrev pub OpenContent : Type 0
+OpenContent = (base : List ℕ) (hull : Option Hull) (moment : ℕ) → content (opened base hull moment) ≡ base
+
+abbrev pub WriteKeepsContent : Type 0
+WriteKeepsContent = (limits : Limits) (f : File) (q : WriteRequest) (t : Ahead) → IsBelow f → content (write limits f q t).file ≡ content f
+
+abbrev pub CommitKeepsContent : Type 0
+CommitKeepsContent = (limits : Limits) (f : File) (q : CommitRequest) (t : Ahead) → IsBelow f → content (commit limits f q t).file ≡ content f
+
+abbrev pub ReadKeepsContent : Type 0
+ReadKeepsContent = (limits : Limits) (f : File) (q : ReadRequest) (t : Ahead) → IsBelow f → content (read limits f q t).file ≡ content f
+
+abbrev pub SyncKeepsContent : Type 0
+SyncKeepsContent = (f : File) (t : Ahead) → content (sync f t).file ≡ content f
+
+abbrev pub SpillKeepsContent : Type 0
+SpillKeepsContent = (limits : Limits) (f : File) (t : Ahead) → IsBelow f → content (spill limits f t).file ≡ content f
+
+abbrev pub PumpKeepsContent : Type 0
+PumpKeepsContent = (limits : Limits) (news : Option Failure) (f : File) (t : Ahead) → IsBelow f → content (pump_with limits news f t).file ≡ content f
+
+abbrev pub StaleKeepsContent : Type 0
+StaleKeepsContent = (cause : Cause) (f : File) (t : Ahead) → IsBelow f → content (turn_stale cause f t).file ≡ content f
+
+abbrev pub GiveUpKeepsContent : Type 0
+GiveUpKeepsContent = (moment : ℕ) (f : File) (t : Ahead) → IsBelow f → content (give_up moment f t).file ≡ content f
+
+-- A turn that stores n bytes more adds the first n bytes of its Put.
+abbrev pub TurnAddsContent : Type 0
+TurnAddsContent = (f : File) (t : Ahead) (n : ℕ) → IsIssued f → IsStored f → (turn f t).file.writer.stored ≡ f.writer.stored + n → content (turn f t).file ≡ content f ++ take n (joined (pieces_of (take 1 f.held.line)))
+
+-- On a working writer, a comparison whose turn comes reads below what is stored, where the content has all bytes of the fold.
+abbrev pub CompareReadsStored : Type 0
+CompareReadsStored = (f : File) (offset : ℕ) (bytes : List ℕ) (level : Stable) (ticket : Option ℕ) (rest : List Job)
+    → IsStored f → IsBelow f → f.writer.failed ≡ None → f.held.line ≡ record { task = Compare offset bytes level; ticket = ticket } ∷ rest
+    → (offset + length bytes ≤ f.writer.stored) × (range_of offset (length bytes) (content f) ≡ range_of offset (length bytes) (fold f.base f.accepted))
+
+-- So a turn does with the content alone what it does with the fold.
+abbrev pub TurnReadsContent : Type 0
+TurnReadsContent = (f : File) (j : Job) (rest : List Job) (t : Ahead) → IsStored f → IsBelow f → f.held.line ≡ j ∷ rest → do_job j (content f) f.writer t ≡ do_job j (fold f.base f.accepted) f.writer t
 
 -- Memory.
 

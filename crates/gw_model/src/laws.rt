@@ -2,6 +2,8 @@
 ghost use Rattle.gw_model.specs.Laws.{FoldGrows, ReachGrows, LetGoChangesNoByte, LetGoLeavesNone, AcceptKeepsForm, LetGoKeepsForm, PiecesAdded, HungLeft, StandingBelowReach, CoveredAtGoal};
 ghost use Rattle.gw_model.specs.Laws.{OpenIssues, WriteIssues, CommitIssues, ReadIssues, TurnIssues, SyncIssues, SpillIssues, PumpIssues, StaleIssues, GiveUpIssues, PieceFollows};
 ghost use Rattle.gw_model.specs.Laws.{WriteLeavesWriter, CommitLeavesWriter, ReadLeavesWriter, SpillLeavesWriter, PumpLeavesWriter, StaleLeavesWriter, GiveUpLeavesWriter, OpenStores, TurnStores, SyncStores, SameStores, PutAppends};
+ghost use Rattle.gw_model.specs.Laws.{OpenBelow, WriteBelow, CommitBelow, ReadBelow, TurnBelow, SyncBelow, SpillBelow, PumpBelow, StaleBelow, GiveUpBelow};
+ghost use Rattle.gw_model.specs.Laws.{OpenContent, WriteKeepsContent, CommitKeepsContent, ReadKeepsContent, SyncKeepsContent, SpillKeepsContent, PumpKeepsContent, StaleKeepsContent, GiveUpKeepsContent, TurnAddsContent, CompareReadsStored, TurnReadsContent};
 ghost use Rattle.gw_model.specs.Laws.{WriteRefused, CommitRefused, ReadRefused};
 ghost use Rattle.gw_model.specs.Sides.{OpenLaw, WriteLaw, CommitLaw, ReadLaw, TurnLaw, SyncLaw, SpillLaw, PumpLaw, PumpAllLaw, StaleLaw, GiveUpLaw};
 
@@ -67,6 +69,37 @@ pub fn writer_laws()
     ensures sync { SyncStores }
     ensures same { SameStores }
     ensures put_appends { PutAppends }
+{}
+
+/// In every file that events lead to, a comparison reads below where the Puts issued before it end, and what is stored
+/// is below reach.
+pub fn below_laws()
+    ensures opened { OpenBelow }
+    ensures write { WriteBelow }
+    ensures commit { CommitBelow }
+    ensures read { ReadBelow }
+    ensures turn { TurnBelow }
+    ensures sync { SyncBelow }
+    ensures spill { SpillBelow }
+    ensures pump { PumpBelow }
+    ensures stale { StaleBelow }
+    ensures give_up { GiveUpBelow }
+{}
+
+/// Only a turn changes the content, which grows by what the turn put; and a turn reads nothing but the content.
+pub fn content_laws()
+    ensures opened { OpenContent }
+    ensures write { WriteKeepsContent }
+    ensures commit { CommitKeepsContent }
+    ensures read { ReadKeepsContent }
+    ensures sync { SyncKeepsContent }
+    ensures spill { SpillKeepsContent }
+    ensures pump { PumpKeepsContent }
+    ensures stale { StaleKeepsContent }
+    ensures give_up { GiveUpKeepsContent }
+    ensures turn { TurnAddsContent }
+    ensures compares { CompareReadsStored }
+    ensures reads { TurnReadsContent }
 {}
 
 /// A request to which memory is refused changes nothing.
