@@ -14,7 +14,7 @@ use Rattle.nfsgw.specs.Links.{Heard, heard, heard_by, heard_of, heard_on, Front,
 use Rattle.nfsgw.specs.declared.link.Link.{Link}
 use Rattle.nfsgw.specs.declared.link.Link.TheVariants.{Open, Closed}
 use Rattle.nfsgw.specs.declared.grammar.Event.{Event}
-use Rattle.nfsgw.specs.declared.grammar.Event.TheVariants.{MakeFile, Bytes, Turn}
+use Rattle.nfsgw.specs.declared.grammar.Event.TheVariants.{MakeFile, Bytes, Turn, Pump}
 use Rattle.nfsgw.proofs.Lines.{script_few}
 use Rattle.nfsgw.proofs.Small.{IsSmall, AllSmall, small_events}
 
@@ -136,6 +136,7 @@ few_at : (n : ℕ) (f : Front) (event : Event) → IsSmall event → AllHold n f
 unfolding arrival
 few_at n f MakeFile small h = (omega arith, all_later n (n + max_line) f.links (omega arith) h)
 few_at n f Turn small h = (omega arith, all_later n (n + max_line) f.links (omega arith) h)
+few_at n f Pump small h = (omega arith, all_later n (n + max_line) f.links (omega arith) h)
 few_at n f (Bytes conn piece) small h =
     let test : ℕ → Bool = is_at (nat_cmp conn) in
     let found = link_at conn f.links in

@@ -16,8 +16,8 @@ use Rattle.hex.specs.Hex.{decode_of}
 use Rattle.hex.specs.declared.error.FromHexError.{FromHexError}
 use Rattle.transcript.specs.Fields.{number_of, some_bytes}
 use Rattle.transcript.proofs.Numbers.{number_of-some, number_of-decimal}
-use Rattle.nfsgw.specs.Grammar.{IsLine, IsName, is_name, file_line, bytes_line, piece_in, line_of}
-use Rattle.nfsgw.specs.declared.grammar.Event.TheVariants.{MakeFile, Bytes, Turn}
+use Rattle.nfsgw.specs.Grammar.{IsLine, IsName, is_name, file_line, bytes_line, piece_in, longer_line, line_of}
+use Rattle.nfsgw.specs.declared.grammar.Event.TheVariants.{MakeFile, Bytes, Turn, Pump}
 use Rattle.nfsgw.specs.declared.grammar.Line.{Line}
 use Rattle.nfsgw.specs.declared.grammar.Line.TheVariants.{Go, End}
 use Rattle.nfsgw.proofs.NameLaw.{name_of_test, test_of_name}
@@ -70,6 +70,10 @@ turn_again : (first : Bool) → line_of first (codes "turn 4") ≡ Some (Go Turn
 unfolding line_of
 turn_again first = refl
 
+pump_again : (first : Bool) → line_of first (codes "pump 4") ≡ Some (Go Pump)
+unfolding line_of
+pump_again first = refl
+
 end_again : (first : Bool) → line_of first (codes "end") ≡ Some End
 unfolding line_of
 end_again first = refl
@@ -80,6 +84,7 @@ spelled first text (Go (Bytes conn bytes)) s =
     let whole : text ≡ codes "bytes " ++ (decimal conn ++ 32 ∷ s.0) = s.1 ∙ append_assoc (codes "bytes ") (decimal conn) (32 ∷ s.0) in
     ap (line_of first) whole ∙ (bytes_word first (decimal conn ++ 32 ∷ s.0) ∙ bytes_again conn s.0 bytes s.2 s.3 s.4)
 spelled first text (Go Turn) s = ap (line_of first) s ∙ turn_again first
+spelled first text (Go Pump) s = ap (line_of first) s ∙ pump_again first
 spelled first text End s = ap (line_of first) s ∙ end_again first
 
 -- and back
@@ -104,6 +109,7 @@ abbrev IsPiece : List ℕ → Line → Type 0
 IsPiece rest (Go (Bytes conn bytes)) = (hex : List ℕ) × (rest ≡ decimal conn ++ 32 ∷ hex) × (conn < 2 ^ 32) × (decode_of hex ≡ Ok bytes) × (0 < length bytes)
 IsPiece rest (Go MakeFile) = ⊥
 IsPiece rest (Go Turn) = ⊥
+IsPiece rest (Go Pump) = ⊥
 IsPiece rest End = ⊥
 
 fields_back : (rest front hex : List ℕ) (n : Option ℕ) (d : Result (List ℕ) FromHexError) (line : Line) → rest ≡ front ++ 32 ∷ hex → number_of 32 front ≡ n → decode_of hex ≡ d
@@ -128,6 +134,7 @@ bytes_whole : (first : Bool) (text : List ℕ) (line : Line) → text ≡ codes 
 bytes_whole first text (Go (Bytes conn bytes)) w p = (p.0, w ∙ (ap (λ x. codes "bytes " ++ x) p.1 ∙ sym (append_assoc (codes "bytes ") (decimal conn) (32 ∷ p.0))), p.2, p.3, p.4)
 bytes_whole first text (Go MakeFile) w p = absurd p
 bytes_whole first text (Go Turn) w p = absurd p
+bytes_whole first text (Go Pump) w p = absurd p
 bytes_whole first text End w p = absurd p
 
 -- what stands in each branch, from the last test to the first
@@ -137,16 +144,19 @@ on_bytes : (first : Bool) (text : List ℕ) (line : Line) (b : Bool) → starts_
 on_bytes first text line true t f = bytes_whole first text line (word_front (codes "bytes ") text t) (bytes_back (drop 6 text) (position (λ b. b == 32) (drop 6 text)) line refl f)
 on_bytes first text line false t f = file_back first text line f
 
+on_pump : (first : Bool) (text : List ℕ) (line : Line) (b : Bool) → bytes_eq text (codes "pump 4") ≡ b
+    → cond b (Some (Go Pump)) (longer_line first text) ≡ Some line → IsLine first text line
+on_pump first text line true t f = let is : line ≡ Go Pump = cc in subst (IsLine first text) (sym is) ((bytes_eq-Decides text (codes "pump 4")).0 t)
+on_pump first text line false t f = on_bytes first text line (starts_with nat_eq text (codes "bytes ")) refl f
+
 on_turn : (first : Bool) (text : List ℕ) (line : Line) (b : Bool) → bytes_eq text (codes "turn 4") ≡ b
-    → cond b (Some (Go Turn)) (cond (starts_with nat_eq text (codes "bytes ")) (bytes_line (drop 6 text) (position (λ b. b == 32) (drop 6 text))) (file_line first text)) ≡ Some line
-    → IsLine first text line
+    → cond b (Some (Go Turn)) (cond (bytes_eq text (codes "pump 4")) (Some (Go Pump)) (longer_line first text)) ≡ Some line → IsLine first text line
 on_turn first text line true t f = let is : line ≡ Go Turn = cc in subst (IsLine first text) (sym is) ((bytes_eq-Decides text (codes "turn 4")).0 t)
-on_turn first text line false t f = on_bytes first text line (starts_with nat_eq text (codes "bytes ")) refl f
+on_turn first text line false t f = on_pump first text line (bytes_eq text (codes "pump 4")) refl f
 
 on_end : (first : Bool) (text : List ℕ) (line : Line) (b : Bool) → bytes_eq text (codes "end") ≡ b
-    → cond b (Some End)
-    (cond (bytes_eq text (codes "turn 4")) (Some (Go Turn)) (cond (starts_with nat_eq text (codes "bytes ")) (bytes_line (drop 6 text) (position (λ b. b == 32) (drop 6 text))) (file_line first text)))
-    ≡ Some line → IsLine first text line
+    → cond b (Some End) (cond (bytes_eq text (codes "turn 4")) (Some (Go Turn)) (cond (bytes_eq text (codes "pump 4")) (Some (Go Pump)) (longer_line first text))) ≡ Some line
+    → IsLine first text line
 on_end first text line true t f = let is : line ≡ End = cc in subst (IsLine first text) (sym is) ((bytes_eq-Decides text (codes "end")).0 t)
 on_end first text line false t f = on_turn first text line (bytes_eq text (codes "turn 4")) refl f
 

@@ -9,7 +9,7 @@ use Rattle.transcript.specs.Fields.{number_of, bytes_of}
 use Rattle.nfsgw.specs.Grammar.{line_of, bytes_line, piece_in, file_line, is_name}
 use Rattle.nfsgw.specs.Outside.{Safe, Home, Stands, IsReady}
 use Rattle.nfsgw.specs.declared.grammar.Event.{Event}
-use Rattle.nfsgw.specs.declared.grammar.Event.TheVariants.{MakeFile, Bytes, Turn}
+use Rattle.nfsgw.specs.declared.grammar.Event.TheVariants.{MakeFile, Bytes, Turn, Pump}
 use Rattle.nfsgw.specs.declared.grammar.Line.{Line}
 use Rattle.nfsgw.specs.declared.grammar.Line.TheVariants.{Go, End}
 use Rattle.nfsgw.proofs.Lines.{by_test}
@@ -54,10 +54,12 @@ unfolding line_of
 line_kind first text =
     let sent = bytes_line (drop 6 text) (position (λ b. b == 32) (drop 6 text)) in
     let last : Option Line = if starts_with nat_eq text (codes "bytes ") then sent else file_line first text in
-    let turn : Option Line = if bytes_eq text (codes "turn 4") then Some (Go Turn) else last in
+    let pump : Option Line = if bytes_eq text (codes "pump 4") then Some (Go Pump) else last in
+    let turn : Option Line = if bytes_eq text (codes "turn 4") then Some (Go Turn) else pump in
     by_test (IsKind first) (bytes_eq text (codes "end")) (Some End) turn tt
-    (by_test (IsKind first) (bytes_eq text (codes "turn 4")) (Some (Go Turn)) last tt
-    (by_test (IsKind first) (starts_with nat_eq text (codes "bytes ")) sent (file_line first text) (bytes_kind first (drop 6 text) (position (λ b. b == 32) (drop 6 text))) (file_kind first text)))
+    (by_test (IsKind first) (bytes_eq text (codes "turn 4")) (Some (Go Turn)) pump tt
+    (by_test (IsKind first) (bytes_eq text (codes "pump 4")) (Some (Go Pump)) last tt
+    (by_test (IsKind first) (starts_with nat_eq text (codes "bytes ")) sent (file_line first text) (bytes_kind first (drop 6 text) (position (λ b. b == 32) (drop 6 text))) (file_kind first text))))
 
 -- the event of a line may be done, where no file is in the tree before the first line
 pub line_ready : (first in_tree : Bool) (text : List ℕ) (event : Event) → line_of first text ≡ Some (Go event) → (first ≡ true → in_tree ≡ false) → IsReady event in_tree
@@ -67,3 +69,4 @@ line_ready first in_tree text event e fresh = go event (subst (IsKind first) e (
     go MakeFile k = fresh k
     go (Bytes conn bytes) k = tt
     go Turn k = tt
+    go Pump k = tt

@@ -6,7 +6,7 @@ use Rattle.hex.proofs.HexLemmas.{decode_of-ok}
 use Rattle.transcript.specs.Script.{Script, stops, script_of, line_then, may_be_line, max_lines, max_line, AtOpen, AtBad}
 use Rattle.nfsgw.specs.Grammar.{read, reading_of, line_of}
 use Rattle.nfsgw.specs.declared.grammar.Event.{Event}
-use Rattle.nfsgw.specs.declared.grammar.Event.TheVariants.{MakeFile, Bytes, Turn}
+use Rattle.nfsgw.specs.declared.grammar.Event.TheVariants.{MakeFile, Bytes, Turn, Pump}
 use Rattle.nfsgw.specs.declared.grammar.Line.{Line}
 use Rattle.nfsgw.specs.declared.grammar.Line.TheVariants as line
 use Rattle.nfsgw.proofs.GrammarLaw.{read_as}
@@ -15,6 +15,7 @@ abbrev pub IsSmall : Event → Type 0
 IsSmall MakeFile = Unit {0}
 IsSmall (Bytes conn piece) = length piece ≤ max_line
 IsSmall Turn = Unit {0}
+IsSmall Pump = Unit {0}
 
 abbrev pub AllSmall : List Event → Type 0
 AllSmall [] = Unit {0}
@@ -24,6 +25,7 @@ AllSmall (event ∷ events) = IsSmall event × AllSmall events
 small_event : (first : Bool) (text : List ℕ) (event : Event) → line_of first text ≡ Some (line.Go event) → length text ≤ max_line → IsSmall event
 small_event first text MakeFile e h = tt
 small_event first text Turn e h = tt
+small_event first text Pump e h = tt
 small_event first text (Bytes conn piece) e h =
     let spelled = read_as first text (line.Go (Bytes conn piece)) e in
     let twice = (decode_of-ok spelled.0 piece spelled.3).2 in

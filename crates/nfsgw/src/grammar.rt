@@ -2,7 +2,7 @@
 ghost use Rattle.std.specs.Prelude.{◌≡◌, ◌↔◌, ◌==◌, ◌<◌, Bool, List, ℕ, Some, length, position, IfOk, IfSome};
 ghost use Rattle.std.specs.List.{list_all};
 ghost use Rattle.transcript.specs.Fields.{bytes_of};
-ghost use Rattle.nfsgw.specs.Grammar.{in_name, is_name as is_name_text, file_line as file_line_of, bytes_line, piece_in, line_of as line_of_text, IsLine};
+ghost use Rattle.nfsgw.specs.Grammar.{in_name, is_name as is_name_text, file_line as file_line_of, bytes_line, piece_in, longer_line as longer_line_of, line_of as line_of_text, IsLine};
 ghost use Rattle.nfsgw.specs.declared.grammar.Line.{Line as LineTerm};
 
 use bytes::Bytes;
@@ -18,6 +18,8 @@ pub enum Event {
     Bytes { conn: u32, bytes: Bytes },
     /// The writer does the first write that is held.
     Turn,
+    /// The writer does jobs until none is left.
+    Pump,
 }
 
 /// A line of a transcript.
@@ -88,6 +90,17 @@ fn bytes_rest(alloc: Global, rest: &[u8]) -> Result<Option<Line>, AllocError>
     }
 }
 
+// The line `bytes CONN HEX` or `file NAME`.
+fn longer_line(alloc: Global, first: bool, text: &[u8]) -> Result<Option<Line>, AllocError>
+    ensures { IfOk result (λ line. line ≡ longer_line_of first text.now) }
+{
+    if text.starts_with(b"bytes ") {
+        bytes_rest(alloc, &text[6..])
+    } else {
+        Ok(file_line(first, text))
+    }
+}
+
 /// The line that a text is, if it is one, as the first or as a later one. It fails only for want of memory.
 #[tactic(auto, unfolding(crate::specs::Grammar::line_of))]
 pub fn line_of(alloc: Global, first: bool, text: &[u8]) -> Result<Option<Line>, AllocError>
@@ -97,10 +110,10 @@ pub fn line_of(alloc: Global, first: bool, text: &[u8]) -> Result<Option<Line>, 
         Ok(Some(Line::End))
     } else if text == b"turn 4".as_slice() {
         Ok(Some(Line::Go(Event::Turn)))
-    } else if text.starts_with(b"bytes ") {
-        bytes_rest(alloc, &text[6..])
+    } else if text == b"pump 4".as_slice() {
+        Ok(Some(Line::Go(Event::Pump)))
     } else {
-        Ok(file_line(first, text))
+        longer_line(alloc, first, text)
     }
 }
 
@@ -177,6 +190,12 @@ mod tests {
                     Some(Line::Go(Event::Turn))
                 )
             );
+            assert!(rt;
+                matches!(
+                    line_of(alloc, first, b"pump 4")?,
+                    Some(Line::Go(Event::Pump))
+                )
+            );
             assert!(rt; matches!(line_of(alloc, first, b"end")?, Some(Line::End)));
         }
         Ok(())
@@ -193,6 +212,9 @@ mod tests {
         assert!(rt; is_refused(alloc, b"file a b")?);
         assert!(rt; is_refused(alloc, b"turn 04")?);
         assert!(rt; is_refused(alloc, b"turn 5")?);
+        assert!(rt; is_refused(alloc, b"pump 04")?);
+        assert!(rt; is_refused(alloc, b"pump 5")?);
+        assert!(rt; is_refused(alloc, b"pump")?);
         assert!(rt; is_refused(alloc, b"end ")?);
         assert!(rt; is_refused(alloc, b"")?);
         Ok(())
