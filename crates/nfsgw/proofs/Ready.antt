@@ -2,8 +2,7 @@
 use Rattle.std.proofs.Common.{◌≡◌, ℕ, Bool, true, false, ◌+◌, ◌&&◌, take, drop, List, Option, Some, None, refl, subst}
 use Rattle.std.specs.Prelude.{bytes_eq, nat_eq, position, codes, ◌==◌, if◌then◌else◌}
 use Rattle.std.specs.List.{starts_with}
-use Rattle.std.specs.Option.{option_map}
-use Rattle.gw_model.specs.declared.object.ObjectId.{ObjectId}
+use Rattle.file_cell.specs.State.{CellState}
 use Rattle.append_store.specs.State.{ObjectState, Missing, Kept, Lent, IsThere, IsAway}
 use Rattle.transcript.specs.Fields.{number_of, bytes_of}
 use Rattle.nfsgw.specs.Grammar.{line_of, bytes_line, piece_in, file_line, is_name}
@@ -19,17 +18,13 @@ there_not_away Missing t a = t
 there_not_away (Kept bytes durable) t a = a
 there_not_away (Lent mark) t a = t
 
-pub home_safe : (tells : Type 0) (s : ObjectState) (mark : Option ObjectId) → Home tells s mark → Safe tells s mark
+pub home_safe : (tells : Type 0) (s : ObjectState) (opened : Option CellState) → Home tells s opened → Safe tells s opened
 home_safe tells s None h = λ told. there_not_away s (h told)
-home_safe tells s (Some m) h = h
+home_safe tells s (Some c) h = h
 
-pub stands_safe : (tells : Type 0) (in_tree : Bool) (s : ObjectState) (mark : Option ObjectId) → Stands tells in_tree s mark → Safe tells s mark
-stands_safe tells false s mark h = h.1
-stands_safe tells true s mark h = home_safe tells s mark h
-
-pub unmapped : {X Y : Type 0} (f : X → Y) (o : Option X) → option_map f o ≡ None → o ≡ None
-unmapped f None none = refl
-unmapped f (Some x) none = absurd (cc none)
+pub stands_safe : (tells : Type 0) (in_tree : Bool) (s : ObjectState) (opened : Option CellState) → Stands tells in_tree s opened → Safe tells s opened
+stands_safe tells false s opened h = rw h.0 h.1
+stands_safe tells true s opened h = home_safe tells s opened h
 
 -- only the first line makes the file
 abbrev IsKind : Bool → Option Line → Type 0

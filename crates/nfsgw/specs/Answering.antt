@@ -17,7 +17,7 @@ use Rattle.nfsgw.specs.Outside.{Kept}
 -- the one file, with no answer left
 abbrev pub IsReady : Option CellState → Type 0
 IsReady None = Unit {0}
-IsReady (Some c) = (c.left ≡ []) × (c.limits ≡ defaults) × (c.id ≡ 4)
+IsReady (Some c) = (c.left ≡ []) × (c.limits ≡ defaults) × (c.id.0 ≡ 4)
 
 -- A request has the next number of its event, and the next ticket; there is room for the notes that it may make.
 pub record IsAsked (conn xid notes : ℕ) (ticket : TicketId) (old new : Kept) : Type 0 where
@@ -48,4 +48,15 @@ ArePlainIn _ = Unit {0}
 -- the history at the end
 abbrev pub history_left : Option Ended → List ℕ
 history_left None = []
-history_left (Some e) = history_text 4 (history_of_ended e AtEnd)
+history_left (Some e) = history_text e.id.0 (history_of_ended e AtEnd)
+
+-- the trace, by whether memory was refused
+abbrev pub noted_by : Bool → Noted → Noted
+noted_by true n = with_note (NoMemory n.event n.request) n
+noted_by false n = n
+
+-- the same file is out, or none
+abbrev pub SameFile : Option CellState → Option CellState → Type 0
+SameFile None None = Unit {0}
+SameFile (Some c) (Some d) = d.file.object ≡ c.file.object
+SameFile _ _ = ⊥

@@ -8,6 +8,8 @@ pub mod Links
 pub mod World
 pub mod Grammar
 pub mod Headline
+pub mod Opening
 pub mod Outside
 pub mod Progress
+pub mod Answering
 pub mod Ways

@@ -1,5 +1,5 @@
 -- What the program keeps of a world, what is seen outside of it, and what a step leaves of both.
-use Rattle.std.specs.Prelude.{◌≡◌, ℕ, ◌+◌, ◌<◌, ◌≤◌, ◌⊎◌, Bool, true, false, List, [], ◌∷◌, ◌++◌, Option, Some, None, string_bytes}
+use Rattle.std.specs.Prelude.{◌≡◌, ℕ, ◌+◌, ◌<◌, ◌^◌, ◌≤◌, ◌⊎◌, length, Bool, true, false, List, [], ◌∷◌, ◌++◌, Option, Some, None, string_bytes}
 use Rattle.std.specs.Option.{option_map}
 use Rattle.gw_model.specs.declared.object.ObjectId.{ObjectId}
 use Rattle.gw_model.specs.declared.object.ObjectId.TheVariants.{Body}
@@ -21,6 +21,8 @@ use Rattle.nfsgw.specs.declared.link.Link.TheVariants.{Open, Closed}
 use Rattle.nfsgw.specs.declared.gateway.Served.{Served}
 use Rattle.nfsgw.specs.declared.grammar.Event.{Event}
 use Rattle.nfsgw.specs.declared.grammar.Event.TheVariants.{MakeFile}
+use Rattle.nfsgw.specs.declared.request.Request.{Request}
+use Rattle.nfsgw.specs.declared.request.Request.TheVariants as request
 use Rattle.nfsgw.specs.declared.world.Stepped.{Stepped}
 use Rattle.nfsgw.specs.declared.world.Stepped.TheVariants as stepped
 
@@ -215,6 +217,12 @@ abbrev pub IsActed : Type 0 → Stepped → Act → Scene → Scene → Type 0
 IsActed tells (stepped.Text text) act old new = IsStep tells act old new (string_bytes text) false
 IsActed tells stepped.StoreFault act old new = IsStep tells act old new [] true
 IsActed tells stepped.NoMemory act old new = IsCut tells act old new
+
+-- where the body has to be for a request, and what a WRITE has
+abbrev pub IsLocated : Type 0 → Request → ObjectState → Option CellState → Type 0
+IsLocated tells (request.Reads call) s opened = Home tells s opened
+IsLocated tells (request.Writes call) s opened = Home tells s opened × (length call.content ≤ 1048576) × (call.offset + length call.content < 2 ^ 63)
+IsLocated tells _ s opened = Unit {0}
 
 -- what a request came to
 abbrev pub IsServed : Type 0 → Served → Act → Scene → Scene → Type 0

@@ -9,7 +9,8 @@ use Rattle.gw_model.specs.Views.{raised}
 use Rattle.gw_model.specs.Writer.{turn, range_of}
 use Rattle.gw_model.specs.Ending.{Ended, history_of}
 use Rattle.tickets.specs.Desk.{TicketId, DeskState, new_desk, owed, issued, dropped, answered, cancelled}
-use Rattle.nfsgw.specs.Text.{reply_bytes, reply_line, closed_line, history_text}
+use Rattle.file_cell.specs.History.{history_text}
+use Rattle.nfsgw.specs.Text.{reply_bytes, reply_line, closed_line}
 use Rattle.nfsgw.specs.declared.call.ReadCall.{ReadCall}
 use Rattle.nfsgw.specs.declared.call.WriteCall.{WriteCall}
 use Rattle.nfsgw.specs.Acts.{Act, Make, Begins, Says, Writes, Reads, Ends, Turns, Pumps}

@@ -1,9 +1,10 @@
 // The desk sends answers, and gives the lines that they write.
-ghost use Rattle.std.specs.Prelude.{◌≡◌, ◌++◌, ◌∷◌, [], IfOk, OnOk, OnErr, string_bytes};
-ghost use Rattle.admit.specs.Answers.{answer_of, body_of, IsPlain};
+ghost use Rattle.std.specs.Prelude.{◌≡◌, ◌++◌, ◌∷◌, [], IfOk, IsErr, OnOk, OnErr, string_bytes};
+ghost use Rattle.admit.specs.Answers.{answer_of, IsPlain};
 ghost use Rattle.admit.specs.Calls.{answers_of};
-ghost use Rattle.tickets.specs.Desk.{answered, owed};
-ghost use Rattle.nfsgw.specs.World.{send, told_to};
+ghost use Rattle.tickets.specs.declared.answer.Body.TheVariants.{Read as ReadBody, Write as WriteBody};
+ghost use Rattle.nfsgw.specs.Answering.{ArePlainIn};
+ghost use Rattle.nfsgw.specs.World.{send};
 
 use crate::reply::reply_text;
 use admit::Verdict;

@@ -7,7 +7,7 @@ ghost use Rattle.nfsgw.specs.Answering.{history_left};
 ghost use Rattle.nfsgw.specs.Links.{heard_of, link_at, heard_at};
 ghost use Rattle.nfsgw.specs.Requests.{act_of, act_in, IsFitting};
 ghost use Rattle.nfsgw.specs.World.{World as WorldState, end_text};
-ghost use Rattle.nfsgw.specs.Outside.{body_id, body_at, faults_at, scene, GivesBack, Safe, Stands, IsOpen, IsReady, IsText, IsCut, Cuts, IsServed, IsPieceServed, IsReceived, IsStepped};
+ghost use Rattle.nfsgw.specs.Outside.{body_id, body_at, faults_at, scene, GivesBack, Safe, Stands, IsLocated, IsOpen, IsReady, IsText, IsCut, Cuts, IsServed, IsPieceServed, IsReceived, IsStepped};
 ghost use Rattle.nfsgw.specs.Progress.{idle};
 
 use crate::grammar::Event;
@@ -55,12 +55,10 @@ fn serve_request<C: Cluster>(
     world: &mut World<C>,
     cluster: &mut C,
 ) -> Result<Served, AllocError>
-    ghost in_tree: { Bool }
-    requires stands { Stands C.File.tells in_tree (C.at cluster.old body_id) world.old.opened }
-    requires fits { IsFitting in_tree request }
+    requires located { IsLocated C.File.tells request (C.at cluster.old body_id) world.old.opened }
     ensures ok { IfOk result (λ s. IsServed C.File.tells s (act_in conn request) (scene world.old (C.at cluster.old body_id) (C.count cluster.old)) (scene world.new (C.at cluster.new body_id) (C.count cluster.new))) }
     ensures err { OnErr result (IsCut C.File.tells (act_in conn request) (scene world.old (C.at cluster.old body_id) (C.count cluster.old)) (scene world.new (C.at cluster.new body_id) (C.count cluster.new))) }
-    ensures stands_after { Stands C.File.tells in_tree (C.at cluster.new body_id) world.new.opened }
+    ensures stands { (in_tree : Bool) → IsFitting in_tree request → Stands C.File.tells in_tree (C.at cluster.old body_id) world.old.opened → Stands C.File.tells in_tree (C.at cluster.new body_id) world.new.opened }
     ensures others { C.File.tells → (q : ObjectId) → q ≢ body_id → C.at cluster.new q ≡ C.at cluster.old q }
     ensures event { world.new.noted.event ≡ world.old.noted.event }
 {
