@@ -60,3 +60,7 @@ abbrev pub SameFile : Option CellState → Option CellState → Type 0
 SameFile None None = Unit {0}
 SameFile (Some c) (Some d) = d.file.object ≡ c.file.object
 SameFile _ _ = ⊥
+
+-- the event and the request that stand now are the same
+abbrev pub SameNumbers : Kept → Kept → Type 0
+SameNumbers old new = (new.noted.event ≡ old.noted.event) × (new.noted.request ≡ old.noted.request)

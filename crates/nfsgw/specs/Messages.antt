@@ -11,6 +11,7 @@ use Rattle.rpc_msg.specs.declared.fault.CallFault.{CallFault}
 use Rattle.rpc_msg.specs.declared.fault.CallFault.TheVariants.{NotCall, RpcMismatch, BadCred, RejectedCred, Short, Memory}
 use Rattle.rpc_msg.specs.Calls.{CallText, call_of}
 use Rattle.rpc_msg.specs.Replies.{accepted, mismatched, denied}
+use Rattle.nfs_types.specs.declared.status.TheConstants.{NFS3ERR_BADHANDLE, NFS3ERR_STALE, NFS3ERR_INVAL}
 use Rattle.nfs_wire.specs.declared.args.Args.{Args}
 use Rattle.nfs_wire.specs.declared.args.Args.TheVariants as args
 use Rattle.nfs_wire.specs.Arguments.{args_of}
@@ -18,7 +19,7 @@ use Rattle.nfsgw.specs.declared.message.ReadArgs.{ReadArgs}
 use Rattle.nfsgw.specs.declared.message.WriteArgs.{WriteArgs}
 use Rattle.nfsgw.specs.declared.message.Asked.{Asked}
 use Rattle.nfsgw.specs.declared.message.Asked.TheVariants.{Ends, Says, Reads, Writes}
-use Rattle.nfsgw.specs.declared.message.TheConstants.{SUCCESS, PROG_UNAVAIL, PROG_MISMATCH, PROC_UNAVAIL, GARBAGE_ARGS, AUTH_BADCRED, AUTH_REJECTEDCRED, NFS_PROGRAM, MOUNT_PROGRAM, VERSION, NULL, READ, WRITE, BADHANDLE, STALE, INVAL}
+use Rattle.nfsgw.specs.declared.message.TheConstants.{SUCCESS, PROG_UNAVAIL, PROG_MISMATCH, PROC_UNAVAIL, GARBAGE_ARGS, AUTH_BADCRED, AUTH_REJECTEDCRED, NFS_PROGRAM, MOUNT_PROGRAM, VERSION, NULL, READ, WRITE}
 
 -- the number of the first four bytes
 abbrev pub xid_of : List ℕ → ℕ
@@ -91,12 +92,12 @@ is_handle bytes = length bytes == 32 && bytes_eq (md5 (take 16 bytes)) (drop 16 
 -- the status by which a request of a file is refused for its handle, where file 4 is in the tree or isn't
 abbrev pub bars : Bool → List ℕ → Option ℕ
 bars in_tree handle =
-    if not (is_handle handle) then Some BADHANDLE
-    else if not (in_tree && bytes_eq handle (handle_text 4 1)) then Some STALE
+    if not (is_handle handle) then Some NFS3ERR_BADHANDLE
+    else if not (in_tree && bytes_eq handle (handle_text 4 1)) then Some NFS3ERR_STALE
     else None
 
 abbrev pub miscounts : WriteArgs → Option ℕ
-miscounts q = if q.count == length q.data then None else Some INVAL
+miscounts q = if q.count == length q.data then None else Some NFS3ERR_INVAL
 
 -- the first refusal decides
 abbrev pub or_then : Option ℕ → Option ℕ → Option ℕ

@@ -9,6 +9,7 @@ ghost use Rattle.nfsgw.specs.Asking.{Gives, HasXid};
 use bytes::Bytes;
 use gw_model::{FileId, Stable};
 use handles::file_of;
+use nfs_types::status::{NFS3ERR_BADHANDLE, NFS3ERR_INVAL, NFS3ERR_STALE};
 use nfs_wire::{Args, ArgsFault, read_args};
 use rpc_msg::{Call, CallFault, accepted_head, auth_error, read_call, rpc_mismatch};
 use std::alloc::{AllocError, Global};
@@ -79,13 +80,6 @@ const NULL: u32 = 0;
 const READ: u32 = 6;
 
 const WRITE: u32 = 7;
-
-// Statuses of NFS (RFC 1813 section 2.6).
-const INVAL: u32 = 22;
-
-const STALE: u32 = 70;
-
-const BADHANDLE: u32 = 10_001;
 
 // The file that may be written, and its file system, as handles name them.
 const DATA_FILE: FileId = FileId(4);
@@ -234,10 +228,10 @@ pub fn handle_refusal(handle: &[u8], in_tree: bool) -> Option<u32>
     ensures { result ≡ bars in_tree handle.now }
 {
     let Some((file, fsid)) = file_of(handle) else {
-        return Some(BADHANDLE);
+        return Some(NFS3ERR_BADHANDLE);
     };
     if !in_tree || file != DATA_FILE || fsid != FSID {
-        return Some(STALE);
+        return Some(NFS3ERR_STALE);
     }
     None
 }
@@ -249,7 +243,7 @@ pub fn refusal(args: &WriteArgs, in_tree: bool) -> Option<u32>
 {
     let refusal = handle_refusal(args.handle.as_slice(), in_tree);
     if refusal.is_none() && args.count as usize != args.data.len() {
-        return Some(INVAL);
+        return Some(NFS3ERR_INVAL);
     }
     refusal
 }

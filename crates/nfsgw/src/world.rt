@@ -8,11 +8,11 @@ ghost use Rattle.nfsgw.specs.Acts.{Act, Make, Says, Writes, Reads, Ends, Turns, 
 ghost use Rattle.nfsgw.specs.Requests.{IsRequest};
 ghost use Rattle.gw_model.specs.File.{SystemErr};
 ghost use Rattle.admit.specs.Answers.{answer_of, IsPlain};
-ghost use Rattle.admit.specs.Calls.{answers_of, is_refusal};
-ghost use Rattle.nfsgw.specs.World.{World as WorldState, end_text, send};
-ghost use Rattle.nfsgw.specs.Outside.{body_id, body_at, scene, GivesBack, Safe, Home, IsText, IsStep, IsCut, IsActed, IsOpen};
+ghost use Rattle.admit.specs.Calls.{answers_of, is_refusal, write_request};
+ghost use Rattle.nfsgw.specs.World.{World as WorldState, end_text, reading, send, tried, write_in};
+ghost use Rattle.nfsgw.specs.Outside.{body_id, body_at, scene, GivesBack, Safe, Home, IsText, Steps, Breaks, IsStep, IsCut, IsActed, IsOpen};
 ghost use Rattle.nfsgw.specs.Progress.{initial};
-ghost use Rattle.nfsgw.specs.Answering.{ArePlainIn, IsAsked, SameButRoom, SameFile, history_left, noted_by, refusing, sent};
+ghost use Rattle.nfsgw.specs.Answering.{ArePlainIn, IsAsked, SameButRoom, SameFile, SameNumbers, history_left, noted_by, refusing, sent};
 
 use crate::answers::{conclude, not_written, read_answer, send_left, send_one};
 use crate::call::{ReadCall, WriteCall};
@@ -218,14 +218,29 @@ impl<C: Cluster> World<C> {
         closed_text(self.alloc, conn)
     }
 
-    // The first write of a file that was just opened. It is closed again where memory is refused.
-    fn write_first(
+    // A WRITE of the file that isn't open. It is opened, and closed again where memory is refused for the request.
+    fn open_and_write(
         &mut self,
-        mut cell: FileCell<C::File, SortedVecMap>,
         request: WriteReq,
         cluster: &mut C,
     ) -> Result<String, AllocError>
+        requires room { 2 ≤ self.old.noted.room }
+        requires last { request.ticket.number ≡ self.old.desk.last }
+        requires closed { self.old.opened ≡ None }
+        requires home { Home C.File.tells (C.at cluster.old body_id) None }
+        requires few { length request.bytes ≤ 1048576 }
+        requires below { request.offset + length request.bytes < 2 ^ 63 }
+        ensures ok { IfOk result (λ text. Steps C.File.tells (tried (λ w t. write_in w.opened w (write_request request) t)) (scene self.old (C.at cluster.old body_id) (C.count cluster.old)) (scene self.new (C.at cluster.new body_id) (C.count cluster.new)) (string_bytes text) false) }
+        ensures err { OnErr result (Breaks C.File.tells (tried (λ w t. write_in w.opened w (write_request request) t)) (scene self.old (C.at cluster.old body_id) (C.count cluster.old)) (scene self.new (C.at cluster.new body_id) (C.count cluster.new))) }
+        ensures home_after { Home C.File.tells (C.at cluster.new body_id) self.new.opened }
+        ensures others { C.File.tells → (q : ObjectId) → q ≢ body_id → C.at cluster.new q ≡ C.at cluster.old q }
+        ensures numbers { SameNumbers self.old self.new }
     {
+        let mut cell = match open_file(self.alloc, cluster, &mut self.trace) {
+            Ok(cell) => cell,
+            Err(Failure::Store) => return self.send(not_written(request.ticket, NFS3ERR_IO)),
+            Err(Failure::Memory) => return self.refuse(request.ticket),
+        };
         match cell.write(request) {
             Verdict::NoMemory(ticket) => {
                 cluster.give_file(BODY, cell.into_parts().body);
@@ -235,20 +250,6 @@ impl<C: Cluster> World<C> {
                 self.cell = Some(cell);
                 self.conclude(verdict)
             }
-        }
-    }
-
-    // A WRITE of the file that isn't open.
-    fn open_and_write(
-        &mut self,
-        request: WriteReq,
-        cluster: &mut C,
-    ) -> Result<String, AllocError>
-    {
-        match open_file(self.alloc, cluster, &mut self.trace) {
-            Ok(cell) => self.write_first(cell, request, cluster),
-            Err(Failure::Store) => self.send(not_written(request.ticket, NFS3ERR_IO)),
-            Err(Failure::Memory) => self.refuse(request.ticket),
         }
     }
 
@@ -292,6 +293,16 @@ impl<C: Cluster> World<C> {
         ticket: Ticket,
         cluster: &mut C,
     ) -> Result<String, AllocError>
+        requires room { 2 ≤ self.old.noted.room }
+        requires last { ticket.number ≡ self.old.desk.last }
+        requires closed { self.old.opened ≡ None }
+        requires home { Home C.File.tells (C.at cluster.old body_id) None }
+        ensures ok { IfOk result (λ text. Steps C.File.tells (tried (reading call)) (scene self.old (C.at cluster.old body_id) (C.count cluster.old)) (scene self.new (C.at cluster.new body_id) (C.count cluster.new)) (string_bytes text) false) }
+        ensures err { OnErr result (Breaks C.File.tells (tried (reading call)) (scene self.old (C.at cluster.old body_id) (C.count cluster.old)) (scene self.new (C.at cluster.new body_id) (C.count cluster.new))) }
+        ensures closed_after { self.new.opened ≡ None }
+        ensures home_after { Home C.File.tells (C.at cluster.new body_id) None }
+        ensures others { C.File.tells → (q : ObjectId) → q ≢ body_id → C.at cluster.new q ≡ C.at cluster.old q }
+        ensures numbers { SameNumbers self.old self.new }
     {
         match read_body(self.alloc, cluster, &mut self.trace, call.offset, call.count) {
             Ok(part) => self.send(read_answer(ticket, NFS3_OK, part.eof, part.bytes)),
