@@ -16,9 +16,9 @@ pub enum Event {
     MakeFile,
     /// A connection sends these bytes, at least one, behind those that it sent before.
     Bytes { conn: u32, bytes: Bytes },
-    /// The writer does the first write that is held.
+    /// The writer does the first job.
     Turn,
-    /// The writer does jobs until none is left.
+    /// The open file hears of its writer, and sends what is ready.
     Pump,
 }
 
