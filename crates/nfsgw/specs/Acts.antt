@@ -6,7 +6,7 @@ use Rattle.nfsgw.specs.declared.call.WriteCall.{WriteCall}
 pub data Act : Type 0 where
   -- the file is created
   Make : Act
-  -- the next event begins, before its first request
+  -- an event begins in which connections are heard
   Begins : Act
   -- a request is answered at once
   Says : (conn xid : ℕ) (reply : List ℕ) → Act
@@ -16,9 +16,9 @@ pub data Act : Type 0 where
   Reads : (conn : ℕ) (call : ReadCall) → Act
   -- a connection ends
   Ends : (conn : ℕ) → Act
-  -- the writer does the first job
+  -- an event: the writer does the first job
   Turns : Act
-  -- the admission side hears of the writer and sends what is ready
+  -- an event: the admission side hears of the writer and sends what is ready
   Pumps : Act
 
 -- whether its connection ends with it

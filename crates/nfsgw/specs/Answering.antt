@@ -1,6 +1,6 @@
 -- What a request takes as it begins, what the desk sends, and what is left of the file at the end.
-use Rattle.std.specs.Prelude.{◌≡◌, ℕ, ◌-◌, ◌^◌, ◌<◌, ◌≤◌, Bool, true, false, List, [], ◌∷◌, Option, None, Some}
-use Rattle.gw_model.specs.Ahead.{NoMemory}
+use Rattle.std.specs.Prelude.{◌≡◌, ℕ, ◌-◌, ◌^◌, ◌<◌, ◌≤◌, ◌⊎◌, Bool, true, false, List, [], ◌∷◌, Option, None, Some}
+use Rattle.gw_model.specs.Ahead.{Outcome, NoMemory}
 use Rattle.gw_model.specs.File.{Answer, SystemErr}
 use Rattle.gw_model.specs.Ending.{Ended as AtEnd}
 use Rattle.gw_model.specs.Views.{Noted, next_request, with_note}
@@ -12,7 +12,7 @@ use Rattle.file_cell.specs.State.{CellState}
 use Rattle.file_cell.specs.declared.closed.Ended.{Ended}
 use Rattle.file_cell.specs.History.{history_of_ended, history_text}
 use Rattle.nfsgw.specs.World.{defaults, send}
-use Rattle.nfsgw.specs.Outside.{Kept}
+use Rattle.nfsgw.specs.Outside.{Kept, Scene, Doing, StepsFrom}
 
 -- the one file, with no answer left
 abbrev pub IsReady : Option CellState → Type 0
@@ -64,3 +64,14 @@ SameFile _ _ = ⊥
 -- the event and the request that stand now are the same
 abbrev pub SameNumbers : Kept → Kept → Type 0
 SameNumbers old new = (new.noted.event ≡ old.noted.event) × (new.noted.request ≡ old.noted.request)
+
+-- These outcomes don't begin with a refusal of memory for an event and a request before those that stand now.
+abbrev pub IsFrom : Noted → List Outcome → Type 0
+IsFrom n (NoMemory event request ∷ outcomes) = (n.event < event) ⊎ ((n.event ≡ event) × (n.request ≤ request))
+IsFrom n _ = Unit {0}
+
+-- What a request that has its ticket comes to, whose text was made or not.
+pub record Tries (tells : Type 0) (go : Doing) (old new : Scene) (made : List ℕ → Type 0) : Type 0 where
+  pub text : List ℕ
+  pub step : StepsFrom tells (IsFrom old.kept.noted) go old new text false
+  pub is : made text

@@ -55,7 +55,7 @@ abbrev pub link_of : Option Link → Link
 link_of (Some link) = link
 link_of None = Open []
 
--- What an event asks for, and what it leaves of the connections. Each but the `file` line begins an event of the run.
+-- What an event asks for, and what it leaves of the connections.
 pub record Arrival : Type 0 where
   pub acts : List Act
   pub front : Front
@@ -77,8 +77,8 @@ piece_on found conn piece f = record { acts = Begins ∷ (heard_at found conn pi
 unfoldable pub arrival : Front → Event → Arrival
 arrival f MakeFile = record { acts = Make ∷ []; front = record f { in_tree = true } }
 arrival f (Bytes conn piece) = piece_on (link_at conn f.links) conn piece f
-arrival f Turn = record { acts = Begins ∷ Turns ∷ []; front = f }
-arrival f Pump = record { acts = Begins ∷ Pumps ∷ []; front = f }
+arrival f Turn = record { acts = Turns ∷ []; front = f }
+arrival f Pump = record { acts = Pumps ∷ []; front = f }
 
 -- what the events of a transcript ask for
 abbrev pub acts_of : Front → List Event → List Act

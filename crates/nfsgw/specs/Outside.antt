@@ -108,12 +108,16 @@ abbrev pub IsAfter : Noted → List Outcome → Type 0
 IsAfter n (NoMemory event request ∷ outcomes) = IsLater n.event n.request event request
 IsAfter n _ = Unit {0}
 
--- What passed in a step: these outcomes, which are those of its own event and request, and what the body grew by.
-pub record Passed (tells : Type 0) (old new : Scene) (outcomes : List Outcome) (put : List ℕ) : Type 0 where
-  pub after : (later : List Outcome) → IsAfter new.kept.noted later → IsAfter old.kept.noted (outcomes ++ later)
+-- What passed in a step: outcomes that may come behind what was before, and what the body grew by.
+pub record PassedFrom (tells : Type 0) (may : List Outcome → Type 0) (old new : Scene) (outcomes : List Outcome) (put : List ℕ) : Type 0 where
+  pub after : (later : List Outcome) → IsAfter new.kept.noted later → may (outcomes ++ later)
   pub puts : tells → new.body ≡ old.body ++ put
   pub fails : Fails outcomes old.faults new.faults
   pub later : old.faults ≤ new.faults
+
+-- in a whole step: none is of an event and request that stood before
+abbrev pub Passed : Type 0 → Scene → Scene → List Outcome → List ℕ → Type 0
+Passed tells old new outcomes put = PassedFrom tells (IsAfter old.kept.noted) old new outcomes put
 
 -- an act
 
@@ -134,11 +138,11 @@ Doing = World → Ahead → Turned
 
 -- For each world that the program stands for, whatever outcomes come later. Of a store that tells nothing only the outcomes
 -- and the faults are said.
-pub record Steps (tells : Type 0) (go : Doing) (old new : Scene) (text : List ℕ) (stopped : Bool) : Type 0 where
+pub record StepsFrom (tells : Type 0) (may : List Outcome → Type 0) (go : Doing) (old new : Scene) (text : List ℕ) (stopped : Bool) : Type 0 where
   pub outcomes : List Outcome
   pub put : List ℕ
   pub notes : Notes old new outcomes
-  pub passed : Passed tells old new outcomes put
+  pub passed : PassedFrom tells may old new outcomes put
   pub next : tells → (w : World) → IsWorld old w → (later : List Outcome) → IsAfter new.kept.noted later → Goes new text stopped later (go w (ahead_at old.kept.noted (outcomes ++ later)))
 
 -- One that want of memory cut off: what the body holds is a front of what it holds after the act.
@@ -150,6 +154,9 @@ pub record Breaks (tells : Type 0) (go : Doing) (old new : Scene) : Type 0 where
 
 abbrev pub acts : Act → Doing
 acts act w t = next w act t
+
+abbrev pub Steps : Type 0 → Doing → Scene → Scene → List ℕ → Bool → Type 0
+Steps tells go old new text stopped = StepsFrom tells (IsAfter old.kept.noted) go old new text stopped
 
 abbrev pub IsStep : Type 0 → Act → Scene → Scene → List ℕ → Bool → Type 0
 IsStep tells act old new text stopped = Steps tells (acts act) old new text stopped

@@ -160,6 +160,7 @@ abbrev pub made : Called → World → Ahead → Turned
 made Good w t = does w [] t
 made (Bad kept) w t = record (does w [] t) { stopped = true }
 
+-- a turn and a pump are events of their own
 abbrev pub turn_in : Option File → World → Ahead → Turned
 turn_in None w t = does w [] t
 turn_in (Some f) w t = of_step w (turn f t)
@@ -188,8 +189,8 @@ next w (Says conn xid reply) t = begun conn xid (saying reply) w t
 next w (Writes conn call) t = begun conn call.xid (writing call) w t
 next w (Reads conn call) t = begun conn call.xid (reading call) w t
 next w (Ends conn) t = close w conn t
-next w Turns t = turn_in w.opened w t
-next w Pumps t = pump_in w.opened w t
+next w Turns t = turn_in w.opened w (at_event t)
+next w Pumps t = pump_in w.opened w (at_event t)
 
 -- a whole run
 

@@ -215,14 +215,8 @@ impl<C: Cluster> Gateway<C> {
                 self.world.begin_event();
                 told(self.receive(conn, bytes.as_slice(), cluster))
             }
-            Event::Turn => {
-                self.world.begin_event();
-                told(self.world.turn())
-            }
-            Event::Pump => {
-                self.world.begin_event();
-                told(self.world.pump())
-            }
+            Event::Turn => told(self.world.turn()),
+            Event::Pump => told(self.world.pump()),
         }
     }
 

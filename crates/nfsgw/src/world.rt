@@ -10,9 +10,9 @@ ghost use Rattle.gw_model.specs.File.{SystemErr};
 ghost use Rattle.admit.specs.Answers.{answer_of, IsPlain};
 ghost use Rattle.admit.specs.Calls.{answers_of, is_refusal, write_request};
 ghost use Rattle.nfsgw.specs.World.{World as WorldState, end_text, reading, send, tried, write_in};
-ghost use Rattle.nfsgw.specs.Outside.{body_id, body_at, scene, GivesBack, Safe, Home, IsText, Steps, Breaks, IsStep, IsCut, IsActed, IsOpen};
+ghost use Rattle.nfsgw.specs.Outside.{body_id, body_at, scene, GivesBack, Safe, Home, IsText, IsStep, IsCut, IsActed, IsOpen};
 ghost use Rattle.nfsgw.specs.Progress.{initial};
-ghost use Rattle.nfsgw.specs.Answering.{ArePlainIn, IsAsked, SameButRoom, SameFile, SameNumbers, history_left, noted_by, refusing, sent};
+ghost use Rattle.nfsgw.specs.Answering.{ArePlainIn, IsAsked, SameButRoom, SameFile, SameNumbers, Tries, history_left, noted_by, refusing, sent};
 
 use crate::answers::{conclude, not_written, read_answer, send_left, send_one};
 use crate::call::{ReadCall, WriteCall};
@@ -230,8 +230,7 @@ impl<C: Cluster> World<C> {
         requires home { Home C.File.tells (C.at cluster.old body_id) None }
         requires few { length request.bytes ≤ 1048576 }
         requires below { request.offset + length request.bytes < 2 ^ 63 }
-        ensures ok { IfOk result (λ text. Steps C.File.tells (tried (λ w t. write_in w.opened w (write_request request) t)) (scene self.old (C.at cluster.old body_id) (C.count cluster.old)) (scene self.new (C.at cluster.new body_id) (C.count cluster.new)) (string_bytes text) false) }
-        ensures err { OnErr result (Breaks C.File.tells (tried (λ w t. write_in w.opened w (write_request request) t)) (scene self.old (C.at cluster.old body_id) (C.count cluster.old)) (scene self.new (C.at cluster.new body_id) (C.count cluster.new))) }
+        ensures tries { Tries C.File.tells (tried (λ w t. write_in w.opened w (write_request request) t)) (scene self.old (C.at cluster.old body_id) (C.count cluster.old)) (scene self.new (C.at cluster.new body_id) (C.count cluster.new)) (λ x. IfOk result (λ t. string_bytes t ≡ x)) }
         ensures home_after { Home C.File.tells (C.at cluster.new body_id) self.new.opened }
         ensures others { C.File.tells → (q : ObjectId) → q ≢ body_id → C.at cluster.new q ≡ C.at cluster.old q }
         ensures numbers { SameNumbers self.old self.new }
@@ -297,8 +296,7 @@ impl<C: Cluster> World<C> {
         requires last { ticket.number ≡ self.old.desk.last }
         requires closed { self.old.opened ≡ None }
         requires home { Home C.File.tells (C.at cluster.old body_id) None }
-        ensures ok { IfOk result (λ text. Steps C.File.tells (tried (reading call)) (scene self.old (C.at cluster.old body_id) (C.count cluster.old)) (scene self.new (C.at cluster.new body_id) (C.count cluster.new)) (string_bytes text) false) }
-        ensures err { OnErr result (Breaks C.File.tells (tried (reading call)) (scene self.old (C.at cluster.old body_id) (C.count cluster.old)) (scene self.new (C.at cluster.new body_id) (C.count cluster.new))) }
+        ensures tries { Tries C.File.tells (tried (reading call)) (scene self.old (C.at cluster.old body_id) (C.count cluster.old)) (scene self.new (C.at cluster.new body_id) (C.count cluster.new)) (λ x. IfOk result (λ t. string_bytes t ≡ x)) }
         ensures closed_after { self.new.opened ≡ None }
         ensures home_after { Home C.File.tells (C.at cluster.new body_id) None }
         ensures others { C.File.tells → (q : ObjectId) → q ≢ body_id → C.at cluster.new q ≡ C.at cluster.old q }
@@ -342,13 +340,15 @@ impl<C: Cluster> World<C> {
         }
     }
 
-    /// The first job of the open file is done.
+    /// An event: the first job of the open file is done.
     pub fn turn(&mut self) -> Result<String, AllocError>
+        requires few { self.old.noted.event < 2 ^ 64 - 1 }
         ensures ok { (s : ObjectState) (n : ℕ) → IfOk result (λ text. IsStep C.File.tells Turns (scene self.old s n) (scene self.new s n) (string_bytes text) false) }
         ensures err { (s : ObjectState) (n : ℕ) → OnErr result (IsCut C.File.tells Turns (scene self.old s n) (scene self.new s n)) }
         ensures mark { SameFile self.old.opened self.new.opened }
-        ensures event { self.new.noted.event ≡ self.old.noted.event }
+        ensures event { self.new.noted.event ≡ self.old.noted.event + 1 }
     {
+        self.trace.begin_event();
         if self.trace.reserve(NOTES).is_err() {
             return Err(AllocError);
         }
@@ -372,13 +372,15 @@ impl<C: Cluster> World<C> {
         send_left(self.alloc, &mut self.desk, cell, text)
     }
 
-    /// The open file hears of its writer, and sends what is ready.
+    /// An event: the open file hears of its writer, and sends what is ready.
     pub fn pump(&mut self) -> Result<String, AllocError>
+        requires few { self.old.noted.event < 2 ^ 64 - 1 }
         ensures ok { (s : ObjectState) (n : ℕ) → IfOk result (λ text. IsStep C.File.tells Pumps (scene self.old s n) (scene self.new s n) (string_bytes text) false) }
         ensures err { (s : ObjectState) (n : ℕ) → OnErr result (IsCut C.File.tells Pumps (scene self.old s n) (scene self.new s n)) }
         ensures mark { SameFile self.old.opened self.new.opened }
-        ensures event { self.new.noted.event ≡ self.old.noted.event }
+        ensures event { self.new.noted.event ≡ self.old.noted.event + 1 }
     {
+        self.trace.begin_event();
         let Some(cell) = &mut self.cell else {
             return Ok(String::new(self.alloc));
         };
