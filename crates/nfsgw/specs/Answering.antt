@@ -65,10 +65,13 @@ SameFile _ _ = ⊥
 abbrev pub SameNumbers : Kept → Kept → Type 0
 SameNumbers old new = (new.noted.event ≡ old.noted.event) × (new.noted.request ≡ old.noted.request)
 
--- These outcomes don't begin with a refusal of memory for an event and a request before those that stand now.
+-- these outcomes don't begin with a refusal of memory for an event and request before this
+abbrev pub are_from : ℕ → ℕ → List Outcome → Type 0
+are_from event request (NoMemory event' request' ∷ outcomes) = (event < event') ⊎ ((event ≡ event') × (request ≤ request'))
+are_from event request _ = Unit {0}
+
 abbrev pub IsFrom : Noted → List Outcome → Type 0
-IsFrom n (NoMemory event request ∷ outcomes) = (n.event < event) ⊎ ((n.event ≡ event) × (n.request ≤ request))
-IsFrom n _ = Unit {0}
+IsFrom n outcomes = are_from n.event n.request outcomes
 
 -- What a request that has its ticket comes to, whose text was made or not.
 pub record Tries (tells : Type 0) (go : Doing) (old new : Scene) (made : List ℕ → Type 0) : Type 0 where

@@ -99,14 +99,13 @@ pub record IsWorld (s : Scene) (w : World) : Type 0 where
 abbrev pub ahead_at : Noted → List Outcome → Ahead
 ahead_at n outcomes = record { left = outcomes; event = n.event; request = n.request; astray = false }
 
--- The second event and request come after the first.
-abbrev pub IsLater : ℕ → ℕ → ℕ → ℕ → Type 0
-IsLater event request event' request' = (event < event') ⊎ ((event ≡ event') × (request < request'))
+-- these outcomes don't begin with a refusal of memory for this event and request, or for one before
+abbrev pub are_after : ℕ → ℕ → List Outcome → Type 0
+are_after event request (NoMemory event' request' ∷ outcomes) = (event < event') ⊎ ((event ≡ event') × (request < request'))
+are_after event request _ = Unit {0}
 
--- These outcomes don't begin with a refusal of memory for the event and the request that stand now, or for one before.
 abbrev pub IsAfter : Noted → List Outcome → Type 0
-IsAfter n (NoMemory event request ∷ outcomes) = IsLater n.event n.request event request
-IsAfter n _ = Unit {0}
+IsAfter n outcomes = are_after n.event n.request outcomes
 
 -- What passed in a step: outcomes that may come behind what was before, and what the body grew by.
 pub record PassedFrom (tells : Type 0) (may : List Outcome → Type 0) (old new : Scene) (outcomes : List Outcome) (put : List ℕ) : Type 0 where

@@ -1,0 +1,353 @@
+-- What an act of the program leaves is what the definition's leaves.
+use Rattle.std.proofs.Common.{◌≡◌, ℕ, ◌+◌, ◌-◌, ◌^◌, ◌<◌, ◌≤◌, ◌⊎◌, inl, inr, Bool, true, false, List, [], ◌∷◌, ◌++◌, Option, Some, None, Result, Ok, Err, refl, sym, ◌∙◌, ap, subst, append_assoc, append-nil, arith}
+use Rattle.std.specs.Prelude.{◌==◌, ◌&&◌, IfOk, OnErr}
+use Rattle.std.proofs.lemmas.Bool.Decides.{nat_tests}
+use Rattle.gw_model.specs.Ahead.{Ahead, Outcome, Done, Failed, Listed, NoMemory, refused, past_refusal}
+use Rattle.gw_model.specs.File.{Answer, SystemErr, File, Step, content}
+use Rattle.gw_model.specs.Views.{Noted, next_event, next_request, with_note}
+use Rattle.tickets.specs.Desk.{TicketId, DeskState, issued}
+use Rattle.append_store.specs.State.{ObjectState}
+use Rattle.transcript.specs.Writing.{IsPrefix}
+use Rattle.file_cell.specs.State.{CellState}
+use Rattle.file_cell.specs.Files.{StandsFor, Follows}
+use Rattle.admit.specs.Calls.{answers_of, ahead_after, is_refusal}
+use Rattle.admit.specs.declared.request.Verdict.{Verdict}
+use Rattle.admit.specs.declared.request.Verdict.TheVariants as verdict
+use Rattle.gw_model.specs.Admission.{WriteRequest, ReadRequest, write, read}
+use Rattle.nfsgw.specs.Acts.{Act, Says, Writes, Reads}
+use Rattle.nfsgw.specs.declared.call.ReadCall.{ReadCall}
+use Rattle.nfsgw.specs.declared.call.WriteCall.{WriteCall}
+use Rattle.nfsgw.specs.Headline.{Fails}
+use Rattle.nfsgw.specs.World.{World, Turned, body_of, next, send, sends, of_step, ask, asked, tried, begun, defaults, saying, writing, reading, write_in, read_in, write_request, read_request}
+use Rattle.nfsgw.specs.Outside.{Kept, Scene, body_at, faults_at, scene, IsOpen, IsWorld, ahead_at, are_after, IsAfter, PassedFrom, Passed, Notes, Goes, Doing, StepsFrom, Steps, Breaks, acts, IsStep, IsCut}
+use Rattle.gw_model.specs.Sides.{Told}
+use Rattle.file_cell.specs.Steps.{Tells}
+use Rattle.nfsgw.specs.Answering.{IsReady, ArePlainIn, IsAsked, SameButRoom, are_from, IsFrom, noted_by, refusing, sent, Tries}
+use Rattle.nfsgw.proofs.Growing.{good_of, grows_one}
+
+-- numbers of events and requests
+
+pub after_request : (n : Noted) (l : List Outcome) → n.request < 2 ^ 64 - 1 → IsFrom (next_request n) l → IsAfter n l
+after_request n [] h f = tt
+after_request n (Done ∷ l) h f = tt
+after_request n (Failed kept ∷ l) h f = tt
+after_request n (Listed objects ∷ l) h f = tt
+after_request n (NoMemory event request ∷ l) h (inl before) = inl before
+after_request n (NoMemory event request ∷ l) h (inr (same, above)) = inr (same, omega (arith, h, above))
+
+pub after_event : (n : Noted) (l : List Outcome) → n.event < 2 ^ 64 - 1 → IsFrom (next_event n) l → IsAfter n l
+after_event n [] h f = tt
+after_event n (Done ∷ l) h f = tt
+after_event n (Failed kept ∷ l) h f = tt
+after_event n (Listed objects ∷ l) h f = tt
+after_event n (NoMemory event request ∷ l) h (inl before) = inl (omega (arith, h, before))
+after_event n (NoMemory event request ∷ l) h (inr (same, above)) = inl (omega (arith, h, same))
+
+pub from_after : (n : Noted) (l : List Outcome) → IsAfter n l → IsFrom n l
+from_after n [] f = tt
+from_after n (Done ∷ l) f = tt
+from_after n (Failed kept ∷ l) f = tt
+from_after n (Listed objects ∷ l) f = tt
+from_after n (NoMemory event request ∷ l) (inl before) = inl before
+from_after n (NoMemory event request ∷ l) (inr (same, above)) = inr (same, omega (arith, above))
+
+apart : (a b : ℕ) → a < b → (b == a) ≡ false
+apart a b h = grind (arith, nat_tests)
+
+itself : (a : ℕ) → (a == a) ≡ true
+itself a = grind (arith, nat_tests)
+
+false_right : (b : Bool) → (b && false) ≡ false
+false_right true = refl
+false_right false = refl
+
+-- memory isn't refused where what comes later is of later requests
+pub not_refused : (n : Noted) (l : List Outcome) → IsAfter n l → refused (ahead_at n l) ≡ false
+not_refused n [] f = refl
+not_refused n (Done ∷ l) f = refl
+not_refused n (Failed kept ∷ l) f = refl
+not_refused n (Listed objects ∷ l) f = refl
+not_refused n (NoMemory event request ∷ l) (inl before) = ap (λ b. b && (request == n.request)) (apart n.event event before)
+not_refused n (NoMemory event request ∷ l) (inr (same, above)) = ap (λ b. (event == n.event) && b) (apart n.request request above) ∙ false_right (event == n.event)
+
+pub refused_here : (n : Noted) (l : List Outcome) → refused (ahead_at n (NoMemory n.event n.request ∷ l)) ≡ true
+refused_here n l = ap (λ b. b && (n.request == n.request)) (itself n.event) ∙ itself n.request
+
+-- worlds
+
+pub open_with_desk : (o : Option CellState) (b : List ℕ) (w : World) (d : DeskState) → IsOpen o b w → IsOpen o b (record w { desk = d })
+open_with_desk None b w d h = h
+open_with_desk (Some c) b w d h = h
+
+pub body_is : (s : Scene) (w : World) → IsWorld s w → body_of w ≡ s.body
+body_is s w h = go s.kept.opened h.opened
+  where
+    go : (o : Option CellState) → IsOpen o s.body w → body_of w ≡ s.body
+    go None (closed, is) = rw closed is
+    go (Some c) (f, opened, stands, is) = rw opened is
+
+-- answers are sent from a world
+pub sending : (v : World) (new : Scene) (d : DeskState) (answers : List Answer) (later : List Outcome) → IsOpen new.kept.opened new.body v → v.desk ≡ d → new.kept.desk ≡ (send d answers).desk
+    → Goes new (send d answers).text false later (sends v answers (ahead_at new.kept.noted later))
+sending v new d answers later opened same desk = record {
+  world = record { opened = open_with_desk new.kept.opened new.body v (send v.desk answers).desk opened; desk = ap (λ x. (send x answers).desk) same ∙ sym desk };
+  text_is = ap (λ x. (send x answers).text) same;
+  stop = refl;
+  ahead = refl;
+}
+
+-- a step whose text wasn't made
+pub breaks_of : (tells : Type 0) (go : Doing) (old new : Scene) (text : List ℕ) → Steps tells go old new text false → Breaks tells go old new
+breaks_of tells go old new text s = record {
+  outcomes = s.outcomes;
+  put = s.put;
+  passed = s.passed;
+  front = λ told w h later fine.
+      let g = s.next told w h later fine in
+      ([], body_is new _ g.world ∙ sym (append-nil new.body));
+}
+
+-- nothing was done
+pub breaks_still : (tells : Type 0) (act : Act) (old new : Scene) → (tells → new.body ≡ old.body) → old.faults ≤ new.faults → ((later : List Outcome) → IsAfter new.kept.noted later → IsAfter old.kept.noted later) → Breaks tells (acts act) old new
+breaks_still tells act old new same up after = record {
+  outcomes = [];
+  put = [];
+  passed = record { after = after; puts = λ told. same told ∙ sym (append-nil old.body); fails = omega (arith, up); later = up };
+  front = λ told w h later fine.
+      let g = grows_one w act (ahead_at old.kept.noted later) (good_of old w h) in
+      (g.0, g.1 ∙ ap (λ b. b ++ g.0) (body_is old w h ∙ sym (same told)));
+}
+
+-- a request that has its number and its ticket
+module _ (tells : Type 0) (conn xid notes : ℕ) (ticket : TicketId) (old mid : Kept) (s : ObjectState) (n : ℕ) (a : IsAsked conn xid notes ticket old mid) where
+  asked_world : (w : World) → IsWorld (scene old s n) w → IsWorld (scene mid s n) (ask conn xid w)
+  asked_world w h = record { opened = rw a.opened (open_with_desk old.opened (body_at s old.opened) w (issued conn xid w.desk) h.opened); desk = ap (issued conn xid) h.desk ∙ sym a.desk }
+
+  pub asked_step : (go : Doing) (new : Scene) (text : List ℕ) → StepsFrom tells (IsFrom mid.noted) (tried go) (scene mid s n) new text false → Steps tells (begun conn xid go) (scene old s n) new text false
+  asked_step go new text t =
+      let f = t.passed.fails in
+      let l = t.passed.later in
+      let same : faults_at n mid.opened ≡ faults_at n old.opened = ap (faults_at n) a.opened in
+      record {
+        outcomes = t.outcomes;
+        put = t.put;
+        notes = t.notes ∙ ap (λ (x : Noted). x.outcomes ++ t.outcomes) a.noted;
+        passed = record {
+          after = λ later fine. after_request old.noted (t.outcomes ++ later) a.counted (subst (λ x. IsFrom x (t.outcomes ++ later)) a.noted (t.passed.after later fine));
+          puts = λ told. t.passed.puts told ∙ ap (λ o. body_at s o ++ t.put) a.opened;
+          fails = omega (arith, f, same);
+          later = omega (arith, l, same);
+        };
+        next = λ told w h later fine.
+            subst (λ x. Goes new text false later (tried go (ask conn xid w) (ahead_at x (t.outcomes ++ later)))) a.noted (t.next told (ask conn xid w) (asked_world w h) later fine);
+      }
+
+-- What a request that has its ticket does, at a scene whose event and request stand.
+module _ (tells : Type 0) (go : Doing) (mid new : Scene) (answers : List Answer) (outcomes : List Outcome) where
+  -- Its answers are sent, with no byte put.
+  pub sent_step : (event : new.kept.noted.event ≡ mid.kept.noted.event) (request : new.kept.noted.request ≡ mid.kept.noted.request)
+      → Notes mid new outcomes
+      → ((later : List Outcome) → IsAfter new.kept.noted later → IsFrom mid.kept.noted (outcomes ++ later))
+      → (tells → new.body ≡ mid.body) → Fails outcomes mid.faults new.faults → mid.faults ≤ new.faults
+      → new.kept.desk ≡ (send mid.kept.desk answers).desk
+      → (tells → (w : World) → IsWorld mid w → (later : List Outcome) → IsAfter new.kept.noted later
+      → (v : World) × IsOpen new.kept.opened new.body v × (v.desk ≡ w.desk) × (tried go w (ahead_at mid.kept.noted (outcomes ++ later)) ≡ sends v answers (ahead_at mid.kept.noted later)))
+      → StepsFrom tells (IsFrom mid.kept.noted) (tried go) mid new (send mid.kept.desk answers).text false
+  sent_step event request notes from same fails up desk comes = record {
+    outcomes = outcomes;
+    put = [];
+    notes = notes;
+    passed = record { after = from; puts = λ told. same told ∙ sym (append-nil mid.body); fails = fails; later = up };
+    next = λ told w h later fine.
+        let c = comes told w h later fine in
+        let g = sending c.0 new mid.kept.desk answers later c.1 (c.2 ∙ h.desk) desk in
+        let ahead : ahead_at mid.kept.noted later ≡ ahead_at new.kept.noted later
+        = ap (λ e. let t : Ahead = record { left = later; event = e; request = mid.kept.noted.request; astray = false } in t) (sym event)
+        ∙ ap (λ r. let t : Ahead = record { left = later; event = new.kept.noted.event; request = r; astray = false } in t) (sym request) in
+        subst (λ x. Goes new (send mid.kept.desk answers).text false later x) (sym (c.3 ∙ ap (λ t. sends c.0 answers t) ahead)) g;
+  }
+
+-- memory is refused as a request begins
+pub refusal_is : (go : Doing) (n : Noted) (w : World) (later : List Outcome)
+    → tried go w (ahead_at n (NoMemory n.event n.request ∷ later)) ≡ sends w (record { ticket = w.desk.last; body = SystemErr } ∷ []) (ahead_at n later)
+refusal_is go n w later =
+    let t = ahead_at n (NoMemory n.event n.request ∷ later) in
+    ap (λ b. asked b w w.desk.last t (go w t)) (refused_here n later)
+
+-- it isn't
+pub goes_on : (go : Doing) (n : Noted) (w : World) (later : List Outcome) → IsAfter n later → tried go w (ahead_at n later) ≡ go w (ahead_at n later)
+goes_on go n w later fine =
+    let t = ahead_at n later in
+    ap (λ b. asked b w w.desk.last t (go w t)) (not_refused n later fine)
+
+pub from_here : (n : Noted) (later : List Outcome) → IsFrom n (NoMemory n.event n.request ∷ later)
+from_here n later = inr (refl, omega arith)
+
+-- the same desk and file, with a request refused
+module _ (tells : Type 0) (go : Doing) (mid new : Kept) (s s' : ObjectState) (n n' : ℕ) (ticket : ℕ) where
+  pub refused_step : new ≡ refusing ticket mid → ticket ≡ mid.desk.last → (tells → body_at s' mid.opened ≡ body_at s mid.opened) → faults_at n mid.opened ≤ faults_at n' mid.opened
+      → StepsFrom tells (IsFrom mid.noted) (tried go) (scene mid s n) (scene new s' n') (send mid.desk (record { ticket = ticket; body = SystemErr } ∷ [])).text false
+  refused_step is last same up = rw is (
+      sent_step tells go (scene mid s n) (scene (refusing ticket mid) s' n') (record { ticket = ticket; body = SystemErr } ∷ []) (NoMemory mid.noted.event mid.noted.request ∷ [])
+      refl refl refl (λ later fine. from_here mid.noted later) same (omega (arith, up)) up refl
+      (λ told w h later fine. (
+          w,
+          subst (λ b. IsOpen mid.opened b w) (sym (same told)) h.opened,
+          refl,
+          refusal_is go mid.noted w later ∙ ap (λ t. sends w (record { ticket = t; body = SystemErr } ∷ []) (ahead_at mid.noted later)) (ap (λ (d : DeskState). d.last) h.desk ∙ sym last),
+      )))
+
+-- A request of the open file.
+
+-- a refusal gives the ticket back, and leaves the cell as it was
+abbrev pub IsOf : Verdict → TicketId → CellState → CellState → Type 0
+IsOf (verdict.NoMemory ticket) asker c d = (ticket ≡ asker) × (d ≡ c)
+IsOf _ asker c d = Unit {0}
+
+abbrev pub with_cell : CellState → Kept → Kept
+with_cell c k = record k { opened = Some c }
+
+-- what is kept after a verdict
+abbrev pub concluded : Verdict → Kept → Kept
+concluded v k = record (sent (answers_of v) k) { noted = noted_by (is_refusal v) k.noted }
+
+-- what a verdict means for the files that a cell stands for
+abbrev pub Means : (File → Ahead → Step) → Verdict → CellState → CellState → Type 0
+Means act v c d = (f : File) (t : Ahead) → StandsFor c f → refused t ≡ is_refusal v → Follows v t (act f t) d
+
+-- the request goes to the open file
+abbrev pub GoesTo : Doing → (File → Ahead → Step) → ℕ → Type 0
+GoesTo go act ticket = (w : World) (f : File) (t : Ahead) → w.opened ≡ Some f → w.desk.last ≡ ticket → go w t ≡ of_step w (act f t)
+
+pub ahead_stays : (v : Verdict) (t : Ahead) → is_refusal v ≡ false → ahead_after v t ≡ t
+ahead_stays (verdict.Reply a) t e = refl
+ahead_stays verdict.Held t e = refl
+ahead_stays (verdict.Dropped ticket) t e = refl
+ahead_stays (verdict.NoMemory ticket) t e = absurd (cc e)
+
+-- an open file, from what is told of a step of it
+pub of_follows : (v : Verdict) (w : World) (t : Ahead) (step : Step) (d : CellState) → Follows v t step d → is_refusal v ≡ false
+    → (u : World) × IsOpen (Some d) d.file.content u × (u.desk ≡ w.desk) × (of_step w step ≡ sends u (answers_of v) t)
+of_follows v w t step d m e = (
+  record w { opened = Some step.file },
+  (step.file, refl, m.stands, sym m.stands.content),
+  refl,
+  ap (λ a. sends (record w { opened = Some step.file }) a step.ahead) m.answers ∙ ap (λ x. sends (record w { opened = Some step.file }) (answers_of v) x) (m.ahead ∙ ahead_stays v t e),
+)
+
+module _ (tells : Type 0) (go : Doing) (act : File → Ahead → Step) (mid : Kept) (c d : CellState) (s : ObjectState) (n : ℕ) (is_open : mid.opened ≡ Some c) (goes : GoesTo go act mid.desk.last) (same : d.file ≡ c.file) where
+  same_body : body_at s (Some d) ≡ body_at s mid.opened
+  same_body = ap (λ x. x.content) same ∙ sym (ap (body_at s) is_open)
+
+  same_faults : faults_at n (Some d) ≡ faults_at n mid.opened
+  same_faults = ap (λ x. n + x.faults) same ∙ sym (ap (faults_at n) is_open)
+
+  done_step : (v : Verdict) → is_refusal v ≡ false → Means act v c d → StepsFrom tells (IsFrom mid.noted) (tried go) (scene mid s n) (scene (concluded v (with_cell d mid)) s n) (send mid.desk (answers_of v)).text false
+  done_step v e means =
+      let count = same_faults in
+      rw e (
+      sent_step tells go (scene mid s n) (scene (sent (answers_of v) (with_cell d mid)) s n) (answers_of v) []
+      refl refl (sym (append-nil mid.noted.outcomes)) (λ later fine. from_after mid.noted later fine) (λ told. same_body) (omega (arith, count)) (omega (arith, count)) refl
+      (λ told w h later fine.
+          let t = ahead_at mid.noted later in
+          let o = subst (λ x. IsOpen x (body_at s x) w) is_open h.opened in
+          let m = means o.0 t o.2 (not_refused mid.noted later fine ∙ sym e) in
+          let u = of_follows v w t (act o.0 t) d m e in
+          (u.0, u.1, u.2, goes_on go mid.noted w later fine ∙ goes w o.0 t o.1 (ap (λ x. x.last) h.desk) ∙ u.3)))
+
+  -- a verdict on a request whose ticket is the last
+  pub open_step : (v : Verdict) (asker : TicketId) → asker.number ≡ mid.desk.last → IsOf v asker c d → Means act v c d
+      → StepsFrom tells (IsFrom mid.noted) (tried go) (scene mid s n) (scene (concluded v (with_cell d mid)) s n) (send mid.desk (answers_of v)).text false
+  open_step (verdict.Reply a) asker last is means = done_step (verdict.Reply a) refl means
+  open_step verdict.Held asker last is means = done_step verdict.Held refl means
+  open_step (verdict.Dropped ticket) asker last is means = done_step (verdict.Dropped ticket) refl means
+  open_step (verdict.NoMemory ticket) asker last is means =
+      let kept : with_cell d mid ≡ mid = ap (λ x. with_cell x mid) is.1 ∙ ap (λ o. record mid { opened = o }) (sym is_open) in
+      subst (λ k. StepsFrom tells (IsFrom mid.noted) (tried go) (scene mid s n) (scene (concluded (verdict.NoMemory ticket) k) s n) (send mid.desk (answers_of (verdict.NoMemory ticket))).text false) (sym kept)
+      (refused_step tells go mid (refusing ticket.number mid) s s n n ticket.number refl (ap (λ (x : TicketId). x.number) is.0 ∙ last) (λ told. refl) (omega arith))
+
+-- What a cell tells of a request.
+pub told_file : (v : Verdict) (asker : TicketId) (old : CellState) (told : Told) (new : CellState) → Tells v asker old told new → new.file ≡ old.file
+told_file (verdict.Reply a) asker old told new t = ap (λ (c : CellState). c.file) t.2
+told_file verdict.Held asker old told new t = ap (λ (c : CellState). c.file) t.0
+told_file (verdict.Dropped ticket) asker old told new t = ap (λ (c : CellState). c.file) t.1
+told_file (verdict.NoMemory ticket) asker old told new t = ap (λ (c : CellState). c.file) t.1
+
+pub told_of_asker : (v : Verdict) (asker : TicketId) (old : CellState) (told : Told) (new : CellState) → Tells v asker old told new → IsOf v asker old new
+told_of_asker (verdict.Reply a) asker old told new t = tt
+told_of_asker verdict.Held asker old told new t = tt
+told_of_asker (verdict.Dropped ticket) asker old told new t = tt
+told_of_asker (verdict.NoMemory ticket) asker old told new t = t
+
+pub told_plain : (v : Verdict) (asker : TicketId) (old : CellState) (told : Told) (new : CellState) → Tells v asker old told new → ArePlainIn v
+told_plain (verdict.Reply a) asker old told new t = t.1
+told_plain verdict.Held asker old told new t = tt
+told_plain (verdict.Dropped ticket) asker old told new t = tt
+told_plain (verdict.NoMemory ticket) asker old told new t = tt
+
+pub told_ready : (v : Verdict) (asker : TicketId) (old : CellState) (told : Told) (new : CellState) → Tells v asker old told new → IsReady (Some old) → IsReady (Some new)
+told_ready (verdict.Reply a) asker old told new t r = rw t.2 r
+told_ready verdict.Held asker old told new t r = rw t.0 r
+told_ready (verdict.Dropped ticket) asker old told new t r = rw t.1 r
+told_ready (verdict.NoMemory ticket) asker old told new t r = rw t.1 r
+
+-- from a step that has its text, or hasn't, to the clauses of a call
+
+pub step_ok : {T E : Type 0} (bytes : T → List ℕ) (result : Result T E) (tells : Type 0) (go : Doing) (old new : Scene) (text : List ℕ) → Steps tells go old new text false → IfOk result (λ t. bytes t ≡ text)
+    → IfOk result (λ t. Steps tells go old new (bytes t) false)
+step_ok bytes (Ok t) tells go old new text s is = subst (λ x. Steps tells go old new x false) (sym is) s
+step_ok bytes (Err e) tells go old new text s is = tt
+
+pub step_err : {T E : Type 0} (result : Result T E) (tells : Type 0) (go : Doing) (old new : Scene) (text : List ℕ) → Steps tells go old new text false → OnErr result (Breaks tells go old new)
+step_err (Ok t) tells go old new text s = tt
+step_err (Err e) tells go old new text s = breaks_of tells go old new text s
+
+pub always_err : {T E : Type 0} (result : Result T E) {P : Type 0} → P → OnErr result P
+always_err (Ok t) p = tt
+always_err (Err e) p = p
+
+-- the acts of requests
+pub says : (tells : Type 0) (conn xid : ℕ) (reply : List ℕ) (old new : Scene) (text : List ℕ) → Steps tells (begun conn xid (saying reply)) old new text false → IsStep tells (Says conn xid reply) old new text false
+unfolding next
+says tells conn xid reply old new text s = s
+
+pub writes : (tells : Type 0) (conn : ℕ) (call : WriteCall) (old new : Scene) (text : List ℕ) → Steps tells (begun conn call.xid (writing call)) old new text false → IsStep tells (Writes conn call) old new text false
+unfolding next
+writes tells conn call old new text s = s
+
+pub reads : (tells : Type 0) (conn : ℕ) (call : ReadCall) (old new : Scene) (text : List ℕ) → Steps tells (begun conn call.xid (reading call)) old new text false → IsStep tells (Reads conn call) old new text false
+unfolding next
+reads tells conn call old new text s = s
+
+-- a request of the open file goes to it
+pub goes_write : (call : WriteCall) (q : WriteRequest) (ticket : ℕ) → q ≡ write_request call ticket → GoesTo (writing call) (λ f t. write defaults f q t) ticket
+goes_write call q ticket is w f t opened last = ap (λ o. write_in o w (write_request call w.desk.last) t) opened ∙ ap (λ x. of_step w (write defaults f x t)) (ap (write_request call) last ∙ sym is)
+
+pub goes_first : (q : WriteRequest) (ticket : ℕ) → GoesTo (λ w t. write_in w.opened w q t) (λ f t. write defaults f q t) ticket
+goes_first q ticket w f t opened last = ap (λ o. write_in o w q t) opened
+
+pub goes_read : (call : ReadCall) (q : ReadRequest) (ticket : ℕ) → q ≡ read_request call ticket → GoesTo (reading call) (λ f t. read defaults f q t) ticket
+goes_read call q ticket is w f t opened last = ap (λ o. read_in o w (read_request call w.desk.last) t) opened ∙ ap (λ x. of_step w (read defaults f x t)) (ap (read_request call) last ∙ sym is)
+
+-- one that goes the same way
+pub same_way : (tells : Type 0) (go go' : Doing) (mid new : Scene) (text : List ℕ) → ((w : World) (t : Ahead) → IsWorld mid w → go w t ≡ go' w t)
+    → StepsFrom tells (IsFrom mid.kept.noted) (tried go) mid new text false → StepsFrom tells (IsFrom mid.kept.noted) (tried go') mid new text false
+same_way tells go go' mid new text same s = record {
+  outcomes = s.outcomes;
+  put = s.put;
+  notes = s.notes;
+  passed = s.passed;
+  next = λ told w h later fine.
+      let t = ahead_at mid.kept.noted (s.outcomes ++ later) in
+      subst (λ x. Goes new text false later x) (ap (λ x. asked (refused t) w w.desk.last t x) (same w t h)) (s.next told w h later fine);
+}
+
+-- what comes later is no less late where only the room grew
+pub room_after : (old new : Kept) → SameButRoom old new → (later : List Outcome) → IsAfter new.noted later → IsAfter old.noted later
+room_after old new is later h = subst (λ (k : Kept). IsAfter k.noted later) is h
+
+pub breaks_room : (tells : Type 0) (act : Act) (old new : Kept) (s : ObjectState) (n : ℕ) → SameButRoom old new → IsCut tells act (scene old s n) (scene new s n)
+breaks_room tells act old new s n is =
+    let body : body_at s new.opened ≡ body_at s old.opened = ap (λ (k : Kept). body_at s k.opened) is in
+    let count : faults_at n new.opened ≡ faults_at n old.opened = ap (λ (k : Kept). faults_at n k.opened) is in
+    breaks_still tells act (scene old s n) (scene new s n) (λ told. body) (omega (arith, count)) (room_after old new is)
