@@ -1,5 +1,5 @@
 -- What a step of a part is for the whole cell.
-use Rattle.std.proofs.Common.{◌≡◌, ℕ, ◌<◌, true, nat_lt, Option, List, [], ◌∷◌, ◌++◌, length, drop, refl, sym, ◌∙◌, ap, subst, append-nil}
+use Rattle.std.proofs.Common.{◌≡◌, ℕ, ◌<◌, true, nat_lt, Option, List, [], ◌++◌, length, drop, sym, ◌∙◌, ap, subst, append-nil}
 use Rattle.std.specs.Prelude.{if◌then◌else◌}
 use Rattle.gw_model.specs.declared.FileId.{FileId}
 use Rattle.gw_model.specs.File as model
@@ -12,7 +12,7 @@ use Rattle.writeback.specs.Answers.{answers_of}
 use Rattle.writeback.specs.State.{WriterState}
 use Rattle.writeback.specs.Steps.{Works}
 use Rattle.file_cell.specs.State.{CellState, IntakeState, cell_of, with_line}
-use Rattle.file_cell.specs.Steps.{IsTaken, Turns, pumped, takes, writer_of}
+use Rattle.file_cell.specs.Steps.{IsTaken, Turns, pumped}
 use Rattle.file_cell.proofs.None.{none_pumped, none_synced, none_turned}
 use Rattle.file_cell.proofs.Standing.{turn_stands}
 
