@@ -1,10 +1,10 @@
 -- The history of a closed cell is that of the file that it stood for.
-use Rattle.std.proofs.Common.{◌≡◌, ℕ, Bool, true, ◌&&◌, ◌||◌, List, [], ◌∷◌, map, length, nat_lt, refl, sym, ◌∙◌, ap}
+use Rattle.std.proofs.Common.{◌≡◌, ℕ, Bool, ◌&&◌, ◌||◌, List, [], ◌∷◌, map, length, nat_lt, refl, sym, ◌∙◌, ap}
 use Rattle.std.specs.Prelude.{is_some, if◌then◌else◌}
 use Rattle.std.proofs.Math.Bool.{or-false, or-true}
 use Rattle.gw_model.specs.Order.{Accepted, end_of}
 use Rattle.gw_model.specs.File.{Entry, File, Side, Writer, entry_of, given_up, reach_of}
-use Rattle.gw_model.specs.Ending.{Why, Closed, Removed, Restarted, Ended, Fate, Lost, Stored, Open, WriteLine, History, fate_of, history_of}
+use Rattle.gw_model.specs.Ending.{Why, Closed, Removed, Restarted, Ended, Lost, Stored, Open, WriteLine, History, fate_of, history_of}
 use Rattle.admit.specs.Parts.{line_of}
 use Rattle.file_cell.specs.declared.closed.Ended as left
 use Rattle.file_cell.specs.State.{CellState}
