@@ -57,6 +57,6 @@ turns tells id base intake new writer after turned answered old j noted noted' i
       room = low;
       first = taken.first;
       works = works3;
-      stands = turn_stands tells (cell_of id base intake writer turned) (cell_of id base new after answered) noted noted' j intake.taken low taken.first works3 (ap (λ (c : CellState). c.side) moved);
+      stands = turn_stands tells (cell_of id base intake writer turned) (cell_of id base new after answered) noted noted' j intake.taken low taken.first works3 (ap (λ (c : CellState). c.side) moved) (ap (λ (c : CellState). c.base) moved);
       rest = moved;
     })

@@ -68,35 +68,35 @@ fetches_on v r t old a b o side limits heard is law goes =
 
 -- The whole cell: a request leaves the writer.
 
-writes_still : (v : Verdict) (r : WriteReq) (old new : CellState) → new.writer ≡ old.writer → WritesOn v old.limits old.side r new.side → Writes v old r new
-writes_still v r old new writer on f t h e =
+writes_still : (v : Verdict) (r : WriteReq) (old new : CellState) → new.writer ≡ old.writer → new.base ≡ old.base → WritesOn v old.limits old.side r new.side → Writes v old r new
+writes_still v r old new writer base on f t h e =
     let go = on f t h.side e in
     let step = write old.limits f (write_request r) t in
     let same = write_same old.limits f (write_request r) t in
     record {
-      stands = record { side = go.0; writer = writer ∙ h.writer ∙ sym same.writer; issued = write_issues old.limits f (write_request r) t h.issued; stored = same_stores f step.file same h.stored };
+      stands = record { side = go.0; writer = writer ∙ h.writer ∙ sym same.writer; base = base ∙ h.base ∙ sym (ap length same.base); issued = write_issues old.limits f (write_request r) t h.issued; stored = same_stores f step.file same h.stored };
       answers = go.1;
       ahead = go.2;
     }
 
-fetches_still : (v : Verdict) (r : ReadReq) (old new : CellState) → new.writer ≡ old.writer → FetchesOn v old.limits old.side r new.side → Fetches v old r new
-fetches_still v r old new writer on f t h e =
+fetches_still : (v : Verdict) (r : ReadReq) (old new : CellState) → new.writer ≡ old.writer → new.base ≡ old.base → FetchesOn v old.limits old.side r new.side → Fetches v old r new
+fetches_still v r old new writer base on f t h e =
     let go = on f t h.side e in
     let step = read old.limits f (read_request r) t in
     let same = read_same old.limits f (read_request r) t in
     record {
-      stands = record { side = go.0; writer = writer ∙ h.writer ∙ sym same.writer; issued = read_issues old.limits f (read_request r) t h.issued; stored = same_stores f step.file same h.stored };
+      stands = record { side = go.0; writer = writer ∙ h.writer ∙ sym same.writer; base = base ∙ h.base ∙ sym (ap length same.base); issued = read_issues old.limits f (read_request r) t h.issued; stored = same_stores f step.file same h.stored };
       answers = go.1;
       ahead = go.2;
     }
 
 pub writes : (v : Verdict) (r : WriteReq) (id : FileId) (base : ℕ) (i n : IntakeState) (w : WriterState) (answered : Option Answer) (old : CellState) → cell_of id base i w answered ≡ old → WritesOn v i.limits i.side r n.side → Writes v old r (cell_of id base n w answered)
 writes v r id base i n w answered old is on =
-    subst (λ (c : CellState). Writes v c r (cell_of id base n w answered)) is (writes_still v r (cell_of id base i w answered) (cell_of id base n w answered) refl on)
+    subst (λ (c : CellState). Writes v c r (cell_of id base n w answered)) is (writes_still v r (cell_of id base i w answered) (cell_of id base n w answered) refl refl on)
 
 pub fetches : (v : Verdict) (r : ReadReq) (id : FileId) (base : ℕ) (i n : IntakeState) (w : WriterState) (answered : Option Answer) (old : CellState) → cell_of id base i w answered ≡ old → FetchesOn v i.limits i.side r n.side → Fetches v old r (cell_of id base n w answered)
 fetches v r id base i n w answered old is on =
-    subst (λ (c : CellState). Fetches v c r (cell_of id base n w answered)) is (fetches_still v r (cell_of id base i w answered) (cell_of id base n w answered) refl on)
+    subst (λ (c : CellState). Fetches v c r (cell_of id base n w answered)) is (fetches_still v r (cell_of id base i w answered) (cell_of id base n w answered) refl refl on)
 
 -- A turn.
 
@@ -112,8 +112,8 @@ starts f (Fetch offset count ticket) start js issued stored line = (f.writer.sto
 starts f (Settle ticket) start js issued stored line = (f.writer.stored, λ works. refl, refl)
 
 pub turn_stands : (tells : Type 0) (old new : CellState) (noted noted' : Noted) (job : Job) (start : ℕ) → length old.writer.owed < 1024 → old.side.held.line ≡ model_job start job ∷ drop 1 old.side.held.line
-    → (x : Works tells job new.left (writer_of old) (writer_of new) noted noted') → new.side ≡ side_turn (length old.writer.owed) old.side → TurnsFor tells job x.calls old new
-turn_stands tells old new noted noted' job start low first x moved f t h reads memory =
+    → (x : Works tells job new.left (writer_of old) (writer_of new) noted noted') → new.side ≡ side_turn (length old.writer.owed) old.side → new.base ≡ old.base → TurnsFor tells job x.calls old new
+turn_stands tells old new noted noted' job start low first x moved base f t h reads memory =
     let js = drop 1 old.side.held.line in
     let j = model_job start job in
     let u = before x.calls t in
@@ -132,6 +132,7 @@ turn_stands tells old new noted noted' job start low first x moved f t h reads m
       stands = record {
         side = subst (λ (s : Side). Stands s (turn f u).file) (sym side) (turn_leads old.side f u h.side);
         writer = sym (ap (λ (s : Step). s.file.writer) is);
+        base = base ∙ h.base ∙ sym (ap (λ (s : Step). length s.file.base) is);
         issued = turn_issues f u h.issued;
         stored = turn_stores f u h.issued h.stored;
       };
@@ -140,9 +141,10 @@ turn_stands tells old new noted noted' job start low first x moved f t h reads m
     }
 
 pub open_law : OpenLaw
-open_law c base hull moment side writer = record {
+open_law c base hull moment many side writer = record {
   side = subst (λ (s : Side). Stands s (model.opened base hull moment)) (sym side) (open_stands base hull moment);
   writer = writer;
+  base = many;
   issued = opened_issues base hull moment;
   stored = open_stores base hull moment;
 }
@@ -157,14 +159,14 @@ pumps_on news t old a b o side limits heard is law goes =
     let there = subst (λ (s : Side). PumpsOn a.limits (admit.news_of news) a.side s b.left) shown on in
     subst (λ n. PumpsOn n (admit.news_of news) old.side (intake_of b o).side b.left) limits (subst (λ (s : Side). PumpsOn a.limits (admit.news_of news) s (intake_of b o).side b.left) side there)
 
-pumps_still : (news : Option Failure) (old new : CellState) → news ≡ old.writer.failed → new.writer ≡ old.writer → PumpsOn old.limits news old.side new.side new.left → Pumps old new
+pumps_still : (news : Option Failure) (old new : CellState) → news ≡ old.writer.failed → new.writer ≡ old.writer → new.base ≡ old.base → PumpsOn old.limits news old.side new.side new.left → Pumps old new
 unfolding pump
-pumps_still news old new heard writer on f t h =
+pumps_still news old new heard writer base on f t h =
     let told_by : news ≡ f.writer.failed = heard ∙ ap (λ (w : Writer). w.failed) h.writer in
     let go = subst (λ n. PumpsOn old.limits n old.side new.side new.left) told_by on f t h.side in
     let same = pump_same old.limits f.writer.failed f t in
     record {
-      stands = record { side = go.0; writer = writer ∙ h.writer ∙ sym same.writer; issued = pump_issues old.limits f.writer.failed f t h.issued; stored = same_stores f (pump_with old.limits f.writer.failed f t).file same h.stored };
+      stands = record { side = go.0; writer = writer ∙ h.writer ∙ sym same.writer; base = base ∙ h.base ∙ sym (ap length same.base); issued = pump_issues old.limits f.writer.failed f t h.issued; stored = same_stores f (pump_with old.limits f.writer.failed f t).file same h.stored };
       answers = go.1;
       ahead = go.2;
     }
@@ -175,4 +177,4 @@ pumps news id base i n w answered old is none heard on =
     let ys = none_synced id base i w answered old is none in
     let left : n.left ≡ answers_of answered ++ w.left ++ n.left = sym (ap (λ zs. zs ++ w.left ++ n.left) xs ∙ ap (λ zs. [] ++ zs ++ n.left) ys) in
     subst (λ (c : CellState). Pumps c (cell_of id base n w answered)) is
-    (pumps_still news (cell_of id base i w answered) (cell_of id base n w answered) heard refl (subst (λ zs. PumpsOn i.limits news i.side n.side zs) left on))
+    (pumps_still news (cell_of id base i w answered) (cell_of id base n w answered) heard refl refl (subst (λ zs. PumpsOn i.limits news i.side n.side zs) left on))

@@ -22,6 +22,7 @@ use Rattle.file_cell.specs.State.{CellState}
 pub record StandsFor (c : CellState) (f : File) : Type 0 where
   pub side : Stands c.side f
   pub writer : c.writer ≡ f.writer
+  pub base : c.base ≡ length f.base
   pub issued : IsIssued f
   pub stored : IsStored f
 
@@ -70,4 +71,4 @@ Pumps old new = (f : File) (t : Ahead) → StandsFor old f → Leads (pump old.l
 
 -- a file that was just opened, with any bytes of that number
 abbrev pub OpenLaw : Type 0
-OpenLaw = (c : CellState) (base : List ℕ) (hull : Option Hull) (moment : ℕ) → c.side ≡ side_opened (length base) hull moment → c.writer ≡ fresh (length base) → StandsFor c (opened base hull moment)
+OpenLaw = (c : CellState) (base : List ℕ) (hull : Option Hull) (moment : ℕ) → c.base ≡ length base → c.side ≡ side_opened (length base) hull moment → c.writer ≡ fresh (length base) → StandsFor c (opened base hull moment)
