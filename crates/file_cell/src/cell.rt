@@ -1,12 +1,15 @@
 // The context of one open file.
 ghost use Rattle.std.specs.Prelude.{◌≡◌, ◌+◌, ◌<◌, ◌-◌, ◌≤◌, ◌^◌, [], IfErr, IfOk, IfSome, length};
 ghost use Rattle.std.specs.Option.{option_map};
+ghost use Rattle.gw_model.specs.Ending.{Why, history_of};
+ghost use Rattle.gw_model.specs.File.{File};
 ghost use Rattle.gw_model.specs.Sides.{side_opened, side_pump, side_read, side_write};
 ghost use Rattle.admit.specs.Calls.{failure_of as heard_failure, news_of, read_request, write_request};
 ghost use Rattle.admit.specs.Leaving.{Hands};
 ghost use Rattle.writeback.specs.State.{failure_of};
 ghost use Rattle.job_line.specs.Ends.{IsOneContext, jobs_sent, jobs_taken, line_slots};
-ghost use Rattle.file_cell.specs.Files.{Fetches, Pumps, Writes};
+ghost use Rattle.file_cell.specs.Files.{Fetches, Pumps, StandsFor, Writes};
+ghost use Rattle.file_cell.specs.History.{history_of_ended};
 ghost use Rattle.file_cell.specs.Steps.{IsBack, IsPumped, IsStepped, IsEnded, IsLineBack, Tells, fresh_cell, is_idle, pumped};
 
 use crate::closed::{Closed, Ended};
@@ -192,16 +195,16 @@ impl<F: AppendFile, M: PendingMap> FileCell<F, M> {
         quiet && self.writer.waiting() == 0
     }
 
-    /// Gives the parts of a file back, without a call on its body.
+    /// Gives the parts of a file back, without a call on its body. The tickets that still wait for a sync are dropped.
     pub fn into_parts(self) -> Closed<F>
         requires none_left { self.left ≡ [] }
-        requires none_waits { self.writer.owed ≡ [] }
         ensures body { record { object = F.mark result.body; content = F.content result.body; durable = F.durable result.body; faults = F.count result.body } ≡ self.file }
         ensures line { IsLineBack self result.line.0 result.line.1 }
         ensures stored { result.stored ≡ self.writer.stored }
         ensures hull { result.hull ≡ self.side.held.hull }
         ensures changed { result.changed ≡ self.side.held.changed }
         ensures ended { IsEnded self result.ended }
+        ensures history { (f : File) (why : Why) → StandsFor self f → history_of_ended result.ended why ≡ history_of f why }
     {
         let FileCell {
             id,

@@ -487,9 +487,8 @@ impl<F: AppendFile> Writer<F> {
         Some(settled(next, fate))
     }
 
-    /// Gives the file back, without a call on it.
+    /// Gives the file back, without a call on it. The tickets that still wait for a sync are dropped.
     pub fn into_file(self) -> F
-        requires none_waits { self.writer.owed ≡ [] }
         requires none_left { self.left ≡ [] }
         ensures { record { object = F.mark result; content = F.content result; durable = F.durable result; faults = F.count result } ≡ self.file }
     {
