@@ -1,5 +1,5 @@
 // An append-only file, and a store of such files. What they hold is told by some and not by others.
-ghost use Rattle.std.specs.Prelude.{◌≡◌, ◌≢◌, ◌⊎◌, ◌++◌, ◌-◌, ◌<◌, ◌≤◌, List, ℕ, length, min, take, drop, IfOk, IfErr, OnOk, OnErr, IsErrOf};
+ghost use Rattle.std.specs.Prelude.{◌≡◌, ◌≢◌, ◌⊎◌, ◌++◌, ◌-◌, ◌^◌, ◌<◌, ◌≤◌, List, ℕ, length, min, take, drop, IfOk, IfErr, OnOk, OnErr, IsErrOf};
 ghost use Rattle.gw_outside.specs.Causes.{HasCause, Rose, Carries};
 ghost use Rattle.gw_model.specs.declared.object.ObjectId.{ObjectId};
 ghost use Rattle.append_store.specs.State.{ObjectState, Missing, Kept, Lent, IsAway, IsCrashImage, IsThere, bytes_of};
@@ -81,9 +81,10 @@ pub trait AppendFile: Drop {
         ensures same { mark self.new ≡ mark self.old }
         ensures cause { HasCause (count self.old) (count self.new) result };
 
-    /// How many bytes the file has.
+    /// How many bytes the file has. A file has fewer than 2^63 bytes, the limit of this gateway.
     fn len(&self) -> u64
-        ensures { result ≡ length (content self.now) };
+        ensures value { result ≡ length (content self.now) }
+        ensures low { result < 2 ^ 63 };
 
     /// How often the file has failed since it was taken. The count never falls, and stays at the
     /// greatest u64.
