@@ -204,7 +204,7 @@ impl<F: AppendFile, M: PendingMap> FileCell<F, M> {
         ensures hull { result.hull ≡ self.side.held.hull }
         ensures changed { result.changed ≡ self.side.held.changed }
         ensures ended { IsEnded self result.ended }
-        ensures history { (f : File) (why : Why) → StandsFor self f → self.base ≡ length f.base → history_of_ended result.ended why ≡ history_of f why }
+        ensures history { (f : File) (why : Why) → StandsFor self f → history_of_ended result.ended why ≡ history_of f why }
     {
         let FileCell {
             id,

@@ -18,11 +18,11 @@ use transcript::write_all;
 /// Why a context ended.
 #[derive(Clone, Copy, Debug, Drop, PartialEq, Eq)]
 pub enum Why {
-    /// Nobody used the file any more.
+    /// A tick closed the file.
     Closed,
     /// The file was removed.
     Removed,
-    /// The gateway was started anew.
+    /// The gateway started anew.
     Restart,
     /// The input ended.
     End,
