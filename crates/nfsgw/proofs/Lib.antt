@@ -7,4 +7,5 @@ pub mod Traffic
 pub mod Replies
 pub mod Assembling
 pub mod Ready
+pub mod Growing
 pub mod Acting
