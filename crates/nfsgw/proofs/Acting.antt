@@ -5,20 +5,27 @@ use Rattle.std.proofs.lemmas.Bool.Decides.{nat_tests}
 use Rattle.gw_model.specs.Ahead.{Ahead, Outcome, Done, Failed, Listed, NoMemory, refused, past_refusal}
 use Rattle.gw_model.specs.File.{Answer, SystemErr, File, Step, content}
 use Rattle.gw_model.specs.Views.{Noted, next_event, next_request, with_note}
-use Rattle.tickets.specs.Desk.{TicketId, DeskState, issued}
+use Rattle.tickets.specs.Desk.{TicketId, DeskState, issued, answered, cancelled, owed}
 use Rattle.append_store.specs.State.{ObjectState}
 use Rattle.transcript.specs.Writing.{IsPrefix}
 use Rattle.file_cell.specs.State.{CellState}
+use Rattle.file_cell.specs.Files as cell
 use Rattle.file_cell.specs.Files.{StandsFor, Follows}
+use Rattle.admit.specs.Calls as admit
+use Rattle.admit.specs.declared.request.WriteReq.{WriteReq}
+use Rattle.admit.specs.declared.request.ReadReq.{ReadReq}
+use Rattle.gw_model.specs.declared.Stable.TheVariants.{Unstable}
 use Rattle.admit.specs.Calls.{answers_of, ahead_after, is_refusal}
 use Rattle.admit.specs.declared.request.Verdict.{Verdict}
 use Rattle.admit.specs.declared.request.Verdict.TheVariants as verdict
 use Rattle.gw_model.specs.Admission.{WriteRequest, ReadRequest, write, read}
-use Rattle.nfsgw.specs.Acts.{Act, Says, Writes, Reads}
+use Rattle.nfsgw.specs.Acts.{Act, Make, Begins, Says, Writes, Reads, Ends, Turns, Pumps}
+use Rattle.nfsgw.specs.Requests.{IsRequest}
+use Rattle.nfsgw.specs.Text.{closed_line}
 use Rattle.nfsgw.specs.declared.call.ReadCall.{ReadCall}
 use Rattle.nfsgw.specs.declared.call.WriteCall.{WriteCall}
 use Rattle.nfsgw.specs.Headline.{Fails}
-use Rattle.nfsgw.specs.World.{World, Turned, body_of, next, send, sends, of_step, ask, asked, tried, begun, defaults, saying, writing, reading, write_in, read_in, write_request, read_request}
+use Rattle.nfsgw.specs.World.{World, Turned, body_of, next, send, sends, text_to, of_step, ask, asked, tried, begun, defaults, saying, writing, reading, write_in, read_in, write_request, read_request}
 use Rattle.nfsgw.specs.Outside.{Kept, Scene, body_at, faults_at, scene, IsOpen, IsWorld, ahead_at, are_after, IsAfter, PassedFrom, Passed, Notes, Goes, Doing, StepsFrom, Steps, Breaks, acts, IsStep, IsCut}
 use Rattle.gw_model.specs.Sides.{Told}
 use Rattle.file_cell.specs.Steps.{Tells}
@@ -266,6 +273,12 @@ module _ (tells : Type 0) (go : Doing) (act : File → Ahead → Step) (mid : Ke
       subst (λ k. StepsFrom tells (IsFrom mid.noted) (tried go) (scene mid s n) (scene (concluded (verdict.NoMemory ticket) k) s n) (send mid.desk (answers_of (verdict.NoMemory ticket))).text false) (sym kept)
       (refused_step tells go mid (refusing ticket.number mid) s s n n ticket.number refl (ap (λ (x : TicketId). x.number) is.0 ∙ last) (λ told. refl) (omega arith))
 
+pub not_want : (v : Verdict) → ((x : TicketId) → v ≡ verdict.NoMemory x → ⊥) → is_refusal v ≡ false
+not_want (verdict.Reply a) n = refl
+not_want verdict.Held n = refl
+not_want (verdict.Dropped ticket) n = refl
+not_want (verdict.NoMemory ticket) n = absurd (n ticket refl)
+
 -- What a cell tells of a request.
 pub told_file : (v : Verdict) (asker : TicketId) (old : CellState) (told : Told) (new : CellState) → Tells v asker old told new → new.file ≡ old.file
 told_file (verdict.Reply a) asker old told new t = ap (λ (c : CellState). c.file) t.2
@@ -351,3 +364,113 @@ breaks_room tells act old new s n is =
     let body : body_at s new.opened ≡ body_at s old.opened = ap (λ (k : Kept). body_at s k.opened) is in
     let count : faults_at n new.opened ≡ faults_at n old.opened = ap (λ (k : Kept). faults_at n k.opened) is in
     breaks_still tells act (scene old s n) (scene new s n) (λ told. body) (omega (arith, count)) (room_after old new is)
+
+-- the last ticket is the request's
+pub last_ticket : (conn xid notes : ℕ) (ticket : TicketId) (old mid : Kept) → IsAsked conn xid notes ticket old mid → ticket.number ≡ mid.desk.last
+last_ticket conn xid notes ticket old mid a = ap (λ (x : TicketId). x.number) a.ticket_is ∙ ap (λ (d : DeskState). d.last) (sym a.desk)
+
+module _ (tells : Type 0) (conn notes : ℕ) (ticket : TicketId) (old mid : Kept) (s : ObjectState) (n : ℕ) (c d : CellState) (v : Verdict) (told : Told) (is_open : mid.opened ≡ Some c) (ready : IsReady (Some c)) where
+  -- a WRITE of the open file
+  pub write_step : (call : WriteCall) (r : WriteReq) → IsAsked conn call.xid notes ticket old mid → r ≡ record { offset = call.offset; stable = Unstable; bytes = call.content; ticket = ticket; moment = 0 } → Tells v r.ticket c told d → cell.Writes v c r d
+      → IsStep tells (Writes conn call) (scene old s n) (scene (concluded v (with_cell d mid)) s n) (send mid.desk (answers_of v)).text false
+  write_step call r a is t w =
+      let last = ap (λ (x : WriteReq). x.ticket.number) is ∙ last_ticket conn call.xid notes ticket old mid a in
+      let q = ap admit.write_request is ∙ ap (λ x. write_request call x) (last_ticket conn call.xid notes ticket old mid a) in
+      writes tells conn call (scene old s n) (scene (concluded v (with_cell d mid)) s n) (send mid.desk (answers_of v)).text
+      (asked_step tells conn call.xid notes ticket old mid s n a (writing call) (scene (concluded v (with_cell d mid)) s n) (send mid.desk (answers_of v)).text
+      (open_step tells (writing call) (λ f t. write defaults f (admit.write_request r) t) mid c d s n is_open (goes_write call (admit.write_request r) mid.desk.last q) (told_file v r.ticket c told d t)
+      v r.ticket last (told_of_asker v r.ticket c told d t) (subst (λ x. (f : File) (t : Ahead) → StandsFor c f → refused t ≡ is_refusal v → Follows v t (write x f (admit.write_request r) t) d) ready.1 w)))
+
+  -- a READ of it
+  pub read_step : (call : ReadCall) (r : ReadReq) → IsAsked conn call.xid notes ticket old mid → r ≡ record { offset = call.offset; count = call.count; ticket = ticket; moment = 0 } → Tells v r.ticket c told d → cell.Fetches v c r d
+      → IsStep tells (Reads conn call) (scene old s n) (scene (concluded v (with_cell d mid)) s n) (send mid.desk (answers_of v)).text false
+  read_step call r a is t w =
+      let last = ap (λ (x : ReadReq). x.ticket.number) is ∙ last_ticket conn call.xid notes ticket old mid a in
+      let q = ap admit.read_request is ∙ ap (λ x. read_request call x) (last_ticket conn call.xid notes ticket old mid a) in
+      reads tells conn call (scene old s n) (scene (concluded v (with_cell d mid)) s n) (send mid.desk (answers_of v)).text
+      (asked_step tells conn call.xid notes ticket old mid s n a (reading call) (scene (concluded v (with_cell d mid)) s n) (send mid.desk (answers_of v)).text
+      (open_step tells (reading call) (λ f t. read defaults f (admit.read_request r) t) mid c d s n is_open (goes_read call (admit.read_request r) mid.desk.last q) (told_file v r.ticket c told d t)
+      v r.ticket last (told_of_asker v r.ticket c told d t) (subst (λ x. (f : File) (t : Ahead) → StandsFor c f → refused t ≡ is_refusal v → Follows v t (read x f (admit.read_request r) t) d) ready.1 w)))
+
+-- what a request of the closed file comes to
+module _ (tells : Type 0) (conn notes : ℕ) (ticket : TicketId) (old mid : Kept) (s : ObjectState) (n : ℕ) where
+  -- a WRITE that opens the file
+  pub first_step : (call : WriteCall) (r : WriteReq) → IsAsked conn call.xid notes ticket old mid → r ≡ record { offset = call.offset; stable = Unstable; bytes = call.content; ticket = ticket; moment = 0 }
+      → (new : Scene) (text : List ℕ) → StepsFrom tells (IsFrom mid.noted) (tried (λ w t. write_in w.opened w (admit.write_request r) t)) (scene mid s n) new text false → IsStep tells (Writes conn call) (scene old s n) new text false
+  first_step call r a is new text t =
+      let q = ap admit.write_request is ∙ ap (λ x. write_request call x) (last_ticket conn call.xid notes ticket old mid a) in
+      writes tells conn call (scene old s n) new text
+      (asked_step tells conn call.xid notes ticket old mid s n a (writing call) new text
+      (same_way tells (λ w u. write_in w.opened w (admit.write_request r) u) (writing call) (scene mid s n) new text
+      (λ w u h. ap (λ x. write_in w.opened w x u) (q ∙ ap (λ (d : DeskState). write_request call d.last) (sym h.desk))) t))
+
+  -- a READ of what is stored
+  pub stored_step : (call : ReadCall) → IsAsked conn call.xid notes ticket old mid
+      → (new : Scene) (text : List ℕ) → StepsFrom tells (IsFrom mid.noted) (tried (reading call)) (scene mid s n) new text false → IsStep tells (Reads conn call) (scene old s n) new text false
+  stored_step call a new text t = reads tells conn call (scene old s n) new text (asked_step tells conn call.xid notes ticket old mid s n a (reading call) new text t)
+
+-- a request that is answered by a whole message
+module _ (tells : Type 0) (conn xid notes : ℕ) (ticket : TicketId) (old mid : Kept) (s : ObjectState) (n : ℕ) (reply : List ℕ) (a : IsAsked conn xid notes ticket old mid) where
+  last : ticket.number ≡ mid.desk.last
+  last = last_ticket conn xid notes ticket old mid a
+
+  abbrev after : Kept
+  after = record mid { desk = answered ticket.number mid.desk }
+
+  said : StepsFrom tells (IsFrom mid.noted) (tried (saying reply)) (scene mid s n) (scene after s n) (text_to (owed ticket.number mid.desk) reply) false
+  said = record {
+    outcomes = [];
+    put = [];
+    notes = sym (append-nil mid.noted.outcomes);
+    passed = record { after = λ later fine. from_after mid.noted later fine; puts = λ told. sym (append-nil (body_at s mid.opened)); fails = omega arith; later = omega arith };
+    next = λ told w h later fine.
+        let same : w.desk.last ≡ ticket.number = ap (λ (d : DeskState). d.last) h.desk ∙ sym last in
+        subst (λ x. Goes (scene after s n) (text_to (owed ticket.number mid.desk) reply) false later x) (sym (goes_on (saying reply) mid.noted w later fine)) (record {
+          world = record { opened = open_with_desk mid.opened (body_at s mid.opened) w (answered w.desk.last w.desk) h.opened; desk = ap (λ k. answered k w.desk) same ∙ ap (answered ticket.number) h.desk };
+          text_is = ap (λ k. text_to (owed k w.desk) reply) same ∙ ap (λ (d : DeskState). text_to (owed ticket.number d) reply) h.desk;
+          stop = refl;
+          ahead = refl;
+        });
+  }
+
+  pub said_step : (new : Kept) → new ≡ after → IsStep tells (Says conn xid reply) (scene old s n) (scene new s n) (text_to (owed ticket.number mid.desk) reply) false
+  said_step new is = rw is (says tells conn xid reply (scene old s n) (scene after s n) (text_to (owed ticket.number mid.desk) reply)
+      (asked_step tells conn xid notes ticket old mid s n a (saying reply) (scene after s n) (text_to (owed ticket.number mid.desk) reply) said))
+
+-- memory was refused for a request
+pub refuses : (tells : Type 0) (act : Act) (conn xid notes : ℕ) (ticket : TicketId) (old mid new : Kept) (s : ObjectState) (n : ℕ) → IsAsked conn xid notes ticket old mid → IsRequest act conn xid → new ≡ refusing ticket.number mid
+    → IsStep tells act (scene old s n) (scene new s n) (send mid.desk (record { ticket = ticket.number; body = SystemErr } ∷ [])).text false
+refuses tells act conn xid notes ticket old mid new s n a is kept = go act is
+  where
+    text : List ℕ
+    text = (send mid.desk (record { ticket = ticket.number; body = SystemErr } ∷ [])).text
+
+    by : (go : Doing) → Steps tells (begun conn xid go) (scene old s n) (scene new s n) text false
+    by go = asked_step tells conn xid notes ticket old mid s n a go (scene new s n) text
+        (refused_step tells go mid new s s n n ticket.number kept (last_ticket conn xid notes ticket old mid a) (λ told. refl) (omega arith))
+
+    go : (act : Act) → IsRequest act conn xid → IsStep tells act (scene old s n) (scene new s n) text false
+    go (Says c x reply) (same, number) = says tells c x reply (scene old s n) (scene new s n) text (rw (same, number) (by (saying reply)))
+    go (Reads c call) (same, number) = reads tells c call (scene old s n) (scene new s n) text (rw (same, number) (by (reading call)))
+    go (Writes c call) (same, number) = writes tells c call (scene old s n) (scene new s n) text (rw (same, number) (by (writing call)))
+    go Make no = absurd no
+    go Begins no = absurd no
+    go (Ends c) no = absurd no
+    go Turns no = absurd no
+    go Pumps no = absurd no
+
+-- the end of a connection
+pub ends_step : (tells : Type 0) (conn : ℕ) (old new : Kept) (s : ObjectState) (n : ℕ) → new ≡ record old { desk = cancelled conn old.desk } → IsStep tells (Ends conn) (scene old s n) (scene new s n) (closed_line conn) false
+unfolding next
+ends_step tells conn old new s n is = rw is (record {
+  outcomes = [];
+  put = [];
+  notes = sym (append-nil old.noted.outcomes);
+  passed = record { after = λ later fine. fine; puts = λ told. sym (append-nil (body_at s old.opened)); fails = omega arith; later = omega arith };
+  next = λ told w h later fine. record {
+    world = record { opened = open_with_desk old.opened (body_at s old.opened) w (cancelled conn w.desk) h.opened; desk = ap (cancelled conn) h.desk };
+    text_is = refl;
+    stop = refl;
+    ahead = refl;
+  };
+})

@@ -14,7 +14,7 @@ use Rattle.file_cell.specs.State.{CellState}
 use Rattle.transcript.specs.Writing.{IsPrefix}
 use Rattle.nfsgw.specs.Acts.{Act, Make, Begins, Says, Writes, Reads, Ends, Turns, Pumps}
 use Rattle.nfsgw.specs.Outside.{IsOpen, IsWorld, Scene}
-use Rattle.nfsgw.specs.World.{Turned, World, ask, asked, at_request, body_in, body_of, defaults, made, next, of_step, opened_for, pump_in, read_in, read_request, read_stored, reading, saying, start, told_of, told_then, turn_in, write_in, write_request, writing}
+use Rattle.nfsgw.specs.World.{Turned, World, ask, asked, at_event, at_request, body_in, body_of, defaults, made, next, of_step, opened_for, pump_in, read_in, read_request, read_stored, reading, saying, start, told_of, told_then, turn_in, write_in, write_request, writing}
 
 -- the file
 
@@ -161,8 +161,8 @@ next_goes w (Reads conn call) t good =
     let u = at_request t in
     asked_goes (refused u) v v.desk.last u (reading call v u) good (read_goes v.opened v (read_request call v.desk.last) u refl good)
 next_goes w (Ends conn) t good = still w good
-next_goes w Turns t good = turn_goes w.opened w t refl good
-next_goes w Pumps t good = pump_goes w.opened w t refl good
+next_goes w Turns t good = turn_goes w.opened w (at_event t) refl good
+next_goes w Pumps t good = pump_goes w.opened w (at_event t) refl good
 
 pub grows_one : (w : World) (act : Act) (t : Ahead) → IsGood w → IsPrefix (body_of w) (body_of (next w act t).world)
 grows_one w act t good = (next_goes w act t good).0

@@ -9,3 +9,4 @@ pub mod Assembling
 pub mod Ready
 pub mod Growing
 pub mod Acting
+pub mod Opens

@@ -20,6 +20,7 @@ pub record IsOpened (tells : Type 0) (c : CellState) (s s' : ObjectState) (count
   pub content : tells → c.file.content ≡ bytes_of s
   pub faults : c.file.faults ≡ 0
   pub id : c.id.0 ≡ 4
+  pub base : c.base ≡ length c.file.content
   pub side : c.side ≡ side_opened (length c.file.content) None 0
   pub writer : c.writer ≡ fresh (length c.file.content)
   pub limits : c.limits ≡ defaults

@@ -4,12 +4,13 @@ ghost use Rattle.gw_outside.specs.Causes.{Rose};
 ghost use Rattle.gw_model.specs.declared.object.ObjectId.{ObjectId};
 ghost use Rattle.gw_model.specs.Views.{next_event};
 ghost use Rattle.append_store.specs.State.{ObjectState, IsAway, IsThere, bytes_of};
+ghost use Rattle.tickets.specs.Desk.{answered, owed};
 ghost use Rattle.nfsgw.specs.Acts.{Act, Make, Says, Writes, Reads, Ends, Turns, Pumps};
 ghost use Rattle.nfsgw.specs.Requests.{IsRequest};
 ghost use Rattle.gw_model.specs.File.{SystemErr};
 ghost use Rattle.admit.specs.Answers.{answer_of, IsPlain};
 ghost use Rattle.admit.specs.Calls.{answers_of, is_refusal, write_request};
-ghost use Rattle.nfsgw.specs.World.{World as WorldState, end_text, reading, send, tried, write_in};
+ghost use Rattle.nfsgw.specs.World.{World as WorldState, end_text, reading, send, text_to, tried, write_in};
 ghost use Rattle.nfsgw.specs.Outside.{body_id, body_at, scene, GivesBack, Safe, Home, IsText, IsStep, IsCut, IsActed, IsOpen};
 ghost use Rattle.nfsgw.specs.Progress.{initial};
 ghost use Rattle.nfsgw.specs.Answering.{ArePlainIn, IsAsked, SameButRoom, SameFile, SameNumbers, Tries, history_left, noted_by, refusing, sent};
@@ -154,6 +155,18 @@ impl<C: Cluster> World<C> {
         send_one(self.alloc, &mut self.desk, answer)
     }
 
+    // Sends a whole reply message, and gives what that writes.
+    fn send_text(&mut self, ticket: Ticket, text: Vec<u8>) -> Result<String, AllocError>
+        ensures kept { self.new ≡ record self.old { desk = answered ticket.number self.old.desk } }
+        ensures line { IfOk result (λ line. string_bytes line ≡ text_to (owed ticket.number self.old.desk) text.items) }
+    {
+        let body = Body::Text(text);
+        match self.desk.send(Answer { ticket, body }) {
+            Sent::Reply { conn, xid: _, body } => said_text(self.alloc, conn, body),
+            Sent::Cancelled => Ok(String::new(self.alloc)),
+        }
+    }
+
     // Memory was refused for the request of this ticket.
     fn refuse(&mut self, ticket: Ticket) -> Result<String, AllocError>
         requires room { 0 < self.old.noted.room }
@@ -181,7 +194,7 @@ impl<C: Cluster> World<C> {
     /// Memory was refused while a request was read.
     pub fn refuse_request(&mut self, conn: u32, xid: u32) -> Result<String, AllocError>
         ensures ok { (act : Act) → IsRequest act conn xid → (s : ObjectState) (n : ℕ) → IfOk result (λ text. IsStep C.File.tells act (scene self.old s n) (scene self.new s n) (string_bytes text) false) }
-        ensures err { (act : Act) (s : ObjectState) (n : ℕ) → OnErr result (IsCut C.File.tells act (scene self.old s n) (scene self.new s n)) }
+        ensures err { (act : Act) → IsRequest act conn xid → (s : ObjectState) (n : ℕ) → OnErr result (IsCut C.File.tells act (scene self.old s n) (scene self.new s n)) }
         ensures opened { self.new.opened ≡ self.old.opened }
         ensures event { self.new.noted.event ≡ self.old.noted.event }
     {
@@ -200,11 +213,7 @@ impl<C: Cluster> World<C> {
         let Ok(text) = Vec::from_slice(self.alloc, reply) else {
             return self.refuse(ticket);
         };
-        let body = Body::Text(text);
-        match self.desk.send(Answer { ticket, body }) {
-            Sent::Reply { conn, xid: _, body } => said_text(self.alloc, conn, body),
-            Sent::Cancelled => Ok(String::new(self.alloc)),
-        }
+        self.send_text(ticket, text)
     }
 
     /// A connection ends: none of its requests is answered any more.

@@ -1,0 +1,17 @@
+use Rattle.std.proofs.Common.{◌≡◌, ap, string_bytes}
+use Rattle.tickets.specs.Desk.{DeskState}
+use Rattle.nfsgw.specs.Outside.{Kept}
+use Rattle.nfsgw.proofs.Acting.{step_ok, step_err, ends_step}
+use Rattle.nfsgw.proofs.world.World.end.Goals as goal
+
+pub returns-clause-ok : goal.returns-clause-ok
+returns-clause-ok g c = λ s n.
+    let old : Kept = record { opened = c.self.inside.cell; desk = c.self.inside.desk; noted = c.self.inside.trace } in
+    let is = ap (λ (d : DeskState). let k : Kept = record old { desk = d } in k) c.cancel_conn.ensures.after in
+    rw (← c.self.view_is) (step_ok string_bytes c.closed_text.result _ _ _ _ _ (ends_step g.C.File.AppendFile.tells c.args.conn old _ s n is) c.closed_text.ensures)
+
+pub returns-clause-err : goal.returns-clause-err
+returns-clause-err g c = λ s n.
+    let old : Kept = record { opened = c.self.inside.cell; desk = c.self.inside.desk; noted = c.self.inside.trace } in
+    let is = ap (λ (d : DeskState). let k : Kept = record old { desk = d } in k) c.cancel_conn.ensures.after in
+    rw (← c.self.view_is) (step_err c.closed_text.result _ _ _ _ _ (ends_step g.C.File.AppendFile.tells c.args.conn old _ s n is))
