@@ -4,7 +4,7 @@ ghost use Rattle.rpc_msg.specs.declared.fault.CallFault.{CallFault};
 ghost use Rattle.rpc_msg.specs.Views.{call_view};
 ghost use Rattle.nfsgw.specs.declared.message.Asked.{Asked};
 ghost use Rattle.nfsgw.specs.Messages.{xid_of, is_served, reply_to, mismatch_text, write_with, asked_with, asked_by_call, asked_by_fault, asked_of, bars, miscounts, IsFew, refusal_of};
-ghost use Rattle.nfsgw.specs.Asking.{Gives, HasXid};
+ghost use Rattle.nfsgw.specs.Asking.{Gives, HasXid, IsAskedBy};
 
 use bytes::Bytes;
 use gw_model::{FileId, Stable};
@@ -86,12 +86,13 @@ const DATA_FILE: FileId = FileId(4);
 
 const FSID: u64 = 1;
 
-/// What a message asks for. Fails only for want of memory, and only where the message has a reply or is a WRITE.
+/// What a message asks for. Fails only for want of memory, and only for a message that asks for
+/// something under its own number.
 pub fn read_message(alloc: Global, message: Bytes) -> Result<Asked, Refused>
     ensures asked { IfOk result (λ a. a ≡ asked_of message) }
     ensures few { IfOk result IsFew }
     ensures xid { IfErr result (λ e. e.xid ≡ xid_of message) }
-    ensures answered { IfErr result (λ _. asked_of message ≢ Asked.Ends) }
+    ensures asked_by { IfErr result (λ e. IsAskedBy (asked_of message) e.xid) }
 {
     match read_call(alloc, message) {
         Ok(call) => call_asked(alloc, call),
