@@ -7,3 +7,4 @@ pub mod Traffic
 pub mod Replies
 pub mod Assembling
 pub mod Ready
+pub mod Links
