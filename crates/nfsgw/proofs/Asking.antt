@@ -1,5 +1,5 @@
 -- What a message asks for carries the xid of its first word, and a WRITE's data is short; want of memory is for what it asks.
-use Rattle.std.proofs.Common.{◌≡◌, ◌≢◌, ℕ, Bool, true, false, cond, ◌==◌, ◌||◌, nat_lt, not, List, length, refl, sym, ◌∙◌, subst, Result, Ok, Err, IfOk, IfErr}
+use Rattle.std.proofs.Common.{◌≡◌, ◌≢◌, ℕ, Bool, true, false, cond, ◌==◌, ◌||◌, nat_lt, nat_le, ◌+◌, ◌^◌, not, List, length, refl, sym, ◌∙◌, subst, Option, None, Some, Result, Ok, Err, IfOk, IfErr}
 use Rattle.gw_model.specs.declared.Stable.{Stable}
 use Rattle.gw_model.specs.declared.Stable.TheVariants.{Unstable, DataSync, FileSync}
 use Rattle.xdr.specs.declared.fault.XdrFault.{XdrFault}
@@ -15,10 +15,14 @@ use Rattle.nfs_wire.specs.declared.args.Args.TheVariants as args
 use Rattle.nfs_wire.specs.Arguments.{args_row, args_of}
 use Rattle.nfs_wire.proofs.Procedures.{args_forth}
 use Rattle.nfsgw.specs.declared.message.WriteArgs.{WriteArgs}
+use Rattle.nfsgw.specs.declared.message.ReadArgs.{ReadArgs}
 use Rattle.nfsgw.specs.declared.message.Asked.{Asked}
+use Rattle.nfsgw.specs.declared.message.Asked.TheVariants.{Ends, Says, Reads, Writes}
 use Rattle.nfsgw.specs.declared.message.Refused.{Refused}
 use Rattle.nfsgw.specs.declared.message.TheConstants.{NFS_PROGRAM, MOUNT_PROGRAM, VERSION, PROC_UNAVAIL}
 use Rattle.nfsgw.specs.Messages.{xid_of, IsFew, reply_to, write_with, asked_with, asked_by_args, is_served, asked_by_call, asked_by_fault, asked_by, asked_of}
+use Rattle.nfsgw.specs.Acts.{Act}
+use Rattle.nfsgw.specs.Requests.{judged_read, judged_write, act_by, IsRequest}
 use Rattle.nfsgw.specs.Asking.{Gives, HasXid, IsAskedBy}
 
 -- the xid
@@ -234,3 +238,23 @@ asked_wanting m (Memory xid) x f s h = let t = s xid refl in asked_called m t.0 
 pub asked_faulted : (m : List ℕ) (fault : CallFault) (r : Result Asked Refused) → Faults m fault → Starves m fault → IfErr r (λ e. HasXid fault e.xid) → IfErr r (λ e. IsAskedBy (asked_of m) e.xid)
 asked_faulted m fault (Ok a) f s h = tt
 asked_faulted m fault (Err e) f s h = asked_wanting m fault e.xid f s h
+
+-- as an act
+
+request_of_read : (conn xid x : ℕ) (a : ReadArgs) (status : Option ℕ) → xid ≡ x → IsRequest (judged_read status conn xid a) conn x
+request_of_read conn xid x a None h = (refl, h)
+request_of_read conn xid x a (Some status) h = (refl, h)
+
+request_cond : (conn x : ℕ) (b : Bool) (one other : Act) → IsRequest one conn x → IsRequest other conn x → IsRequest (cond b one other) conn x
+request_cond conn x true one other h k = h
+request_cond conn x false one other h k = k
+
+request_of_write : (conn xid x : ℕ) (a : WriteArgs) (status : Option ℕ) → xid ≡ x → IsRequest (judged_write status conn xid a) conn x
+request_of_write conn xid x a (Some status) h = (refl, h)
+request_of_write conn xid x a None h = request_cond conn x (nat_le (2 ^ 63) (a.offset + length a.data)) _ _ (refl, h) (request_cond conn x (length a.data == 0) _ _ (refl, h) (refl, h))
+
+pub request_of : (in_tree : Bool) (conn : ℕ) (a : Asked) (x : ℕ) → IsAskedBy a x → IsRequest (act_by in_tree conn a) conn x
+request_of in_tree conn Ends x h = absurd h
+request_of in_tree conn (Says xid reply) x h = (refl, h)
+request_of in_tree conn (Reads xid a) x h = request_of_read conn xid x a (bars in_tree a.handle) h
+request_of in_tree conn (Writes xid a) x h = request_of_write conn xid x a (refusal_of in_tree a) h
