@@ -20,7 +20,7 @@ use Rattle.nfsgw.specs.declared.message.Asked.{Asked}
 use Rattle.nfsgw.specs.declared.message.Asked.TheVariants.{Ends, Says, Reads, Writes}
 use Rattle.nfsgw.specs.declared.message.Refused.{Refused}
 use Rattle.nfsgw.specs.declared.message.TheConstants.{NFS_PROGRAM, MOUNT_PROGRAM, VERSION, PROC_UNAVAIL}
-use Rattle.nfsgw.specs.Messages.{xid_of, IsFew, reply_to, write_with, asked_with, asked_by_args, is_served, asked_by_call, asked_by_fault, asked_by, asked_of}
+use Rattle.nfsgw.specs.Messages.{xid_of, IsFew, reply_to, write_with, asked_with, asked_by_args, is_served, asked_by_call, asked_by_fault, asked_of, bars, refusal_of}
 use Rattle.nfsgw.specs.Acts.{Act}
 use Rattle.nfsgw.specs.Requests.{judged_read, judged_write, act_by, IsRequest}
 use Rattle.nfsgw.specs.Asking.{Gives, HasXid, IsAskedBy}

@@ -1,5 +1,3 @@
-use Rattle.std.proofs.Common.{sym, subst}
-use Rattle.nfsgw.specs.Asking.{Gives}
 use Rattle.nfsgw.proofs.Asking.{asked_else}
 use Rattle.nfsgw.proofs.message.args_asked.Goals as goal
 

@@ -1,4 +1,5 @@
-use Rattle.std.proofs.Common.{rules, ◌≡◌, subst, sym, ◌∙◌, Ok, Err, IfErr, ℕ}
+use Rattle.std.proofs.Common.{◌≡◌, subst, sym, ◌∙◌, Result, Ok, Err, IfErr, ℕ}
+use Rattle.std.specs.Result.{IsErrAnd}
 use Rattle.nfsgw.specs.Messages.{asked_of}
 use Rattle.nfsgw.specs.Requests.{act_of, act_by, IsRequest}
 use Rattle.nfsgw.specs.declared.message.Asked.{Asked}
@@ -7,8 +8,15 @@ use Rattle.nfsgw.specs.declared.message.Refused.{Refused}
 use Rattle.nfsgw.proofs.Asking.{request_of}
 use Rattle.nfsgw.proofs.request.read_request.Goals as goal
 
+-- the fault of a `?` is the one that was met
+passed_on : {A : Type 0} (r : Result A Refused) (met : Refused) (P : Refused → Type 0) → IsErrAnd r (λ e. e ≡ met) → P met → IfErr r P
+passed_on (Ok a) met P same p = tt
+passed_on (Err e) met P same p = subst P (sym same) p
+
 pub returns-in_err-read_message-clause-refused : goal.returns-in_err-read_message-clause-refused
-returns-in_err-read_message-clause-refused c = rw c.from_residual.ensures (λ conn. request_of c.args.in_tree conn (asked_of c.args.message) c.in_err-read_message.field-0.0.xid c.in_err-read_message.ensures.asked_by)
+returns-in_err-read_message-clause-refused c =
+    let asks = λ (conn : ℕ). request_of c.args.in_tree conn (asked_of c.args.message) c.in_err-read_message.field-0.0.xid c.in_err-read_message.ensures.asked_by in
+    passed_on c.from_residual.result c.in_err-read_message.field-0.0 (λ e. (conn : ℕ) → IsRequest (act_of c.args.in_tree conn c.args.message) conn e.xid) c.from_residual.ensures.1 asks
 
 pub returns-in-Reads-clause-refused : goal.returns-in-Reads-clause-refused
 returns-in-Reads-clause-refused c =
