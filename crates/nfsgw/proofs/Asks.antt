@@ -7,18 +7,19 @@ use Rattle.xdr.specs.Items.{word, long}
 use Rattle.xdr.specs.Reading.{u32_at, u64_at, opaque_at, finish_at}
 use Rattle.rpc_msg.specs.Calls.{part_at, auth_at, sender_of, system_sender, groups_at, words_at, body_of, call_of}
 use Rattle.rpc_msg.specs.Replies.{accepted, mismatched, denied}
-use Rattle.nfs_wire.specs.Arguments.{stable_at, write_at, nfs_arms, mount_arms, args_of}
+use Rattle.nfs_wire.specs.Arguments.{stable_at, read_at, write_at, nfs_arms, mount_arms, args_of}
+use Rattle.nfsgw.specs.declared.message.ReadArgs.{ReadArgs}
 use Rattle.nfsgw.specs.declared.message.WriteArgs.{WriteArgs}
 use Rattle.nfsgw.specs.declared.message.Asked.{Asked}
-use Rattle.nfsgw.specs.declared.message.Asked.TheVariants.{Ends, Says, Writes}
-use Rattle.nfsgw.specs.Messages.{asked_of, refusal_of}
+use Rattle.nfsgw.specs.declared.message.Asked.TheVariants.{Ends, Says, Reads, Writes}
+use Rattle.nfsgw.specs.Messages.{asked_of, bars, refusal_of}
 
 abbrev words : List ℕ → List ℕ
 words [] = []
 words (w ∷ ws) = word w ++ words ws
 
 abbrev Asks : List ℕ → Asked → Type 0
-unfolding word u32_at u64_at opaque_at finish_at part_at auth_at sender_of system_sender groups_at words_at body_of call_of accepted mismatched denied stable_at write_at nfs_arms mount_arms args_of
+unfolding word u32_at u64_at opaque_at finish_at part_at auth_at sender_of system_sender groups_at words_at body_of call_of accepted mismatched denied stable_at read_at write_at nfs_arms mount_arms args_of
 Asks message asked = asked_of (words message) ≡ asked
 
 abbrev Says_words : ℕ → List ℕ → Asked
@@ -70,6 +71,26 @@ garbage_args : Asks (write_a (0 ∷ [])) (Says_words 5 (5 ∷ 1 ∷ 0 ∷ 0 ∷ 
 unfolding Asks Says_words
 garbage_args = refl
 
+-- a READ of 5 bytes at offset 2^32 + 2 of file 4, and with a word behind it
+abbrev read_five : List ℕ → List ℕ
+read_five rest = 10 ∷ 0 ∷ 2 ∷ 100003 ∷ 3 ∷ 6 ∷ 0 ∷ 0 ∷ 0 ∷ 0 ∷ 32 ∷ 0 ∷ 4 ∷ 0 ∷ 1 ∷ 0x21e0f297 ∷ 0x5a84e78c ∷ 0xec58787a ∷ 0xf28bde14 ∷ 1 ∷ 2 ∷ 5 ∷ rest
+
+abbrev args_five : ReadArgs
+args_five = record { handle = handle_four; offset = 0x100000002; count = 5 }
+
+read_call : Asks (read_five []) (Reads 10 args_five)
+unfolding Asks
+read_call = refl
+
+read_garbage : Asks (read_five (0 ∷ [])) (Says_words 10 (10 ∷ 1 ∷ 0 ∷ 0 ∷ 0 ∷ 4 ∷ []))
+unfolding Asks Says_words
+read_garbage = refl
+
+-- MOUNT has no procedure 6 as NFS has
+no_read_of_mount : Asks (11 ∷ 0 ∷ 2 ∷ 100005 ∷ 3 ∷ 6 ∷ 0 ∷ 0 ∷ 0 ∷ 0 ∷ []) (Says_words 11 (11 ∷ 1 ∷ 0 ∷ 0 ∷ 0 ∷ 3 ∷ []))
+unfolding Asks Says_words
+no_read_of_mount = refl
+
 -- a credential of another flavor, and one of 401 bytes
 rejected : Asks (6 ∷ 0 ∷ 2 ∷ 100003 ∷ 3 ∷ 0 ∷ 6 ∷ 0 ∷ 0 ∷ 0 ∷ []) (Says_words 6 (6 ∷ 1 ∷ 1 ∷ 1 ∷ 2 ∷ []))
 unfolding Asks Says_words
@@ -107,3 +128,20 @@ other_count = refl
 no_handle : Refuses true (record (args_a 1) { handle = codes "a" }) (Some 10001)
 unfolding Refuses
 no_handle = refl
+
+-- of a READ the handle alone is judged
+abbrev Bars : Bool → ReadArgs → Option ℕ → Type 0
+unfolding md5 digest_bytes hash_after compress rounds block_words word long handle_text ids_text
+Bars in_tree q status = bars in_tree q.handle ≡ status
+
+read_taken : Bars true args_five None
+unfolding Bars
+read_taken = refl
+
+read_not_in_tree : Bars false args_five (Some 70)
+unfolding Bars
+read_not_in_tree = refl
+
+read_no_handle : Bars true (record args_five { handle = codes "a" }) (Some 10001)
+unfolding Bars
+read_no_handle = refl

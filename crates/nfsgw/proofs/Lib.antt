@@ -10,3 +10,4 @@ pub mod Ready
 pub mod Growing
 pub mod Acting
 pub mod Opens
+pub mod Links

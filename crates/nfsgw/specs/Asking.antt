@@ -4,6 +4,7 @@ use Rattle.rpc_msg.specs.declared.fault.CallFault.{CallFault}
 use Rattle.rpc_msg.specs.declared.fault.CallFault.TheVariants.{NotCall, RpcMismatch, BadCred, RejectedCred, Short, Memory}
 use Rattle.nfsgw.specs.declared.message.Refused.{Refused}
 use Rattle.nfsgw.specs.declared.message.Asked.{Asked}
+use Rattle.nfsgw.specs.declared.message.Asked.TheVariants.{Ends, Says, Reads, Writes}
 
 -- the request with this xid asks for this, or memory was wanting for it
 abbrev pub Gives : Result Asked Refused → ℕ → Asked → Type 0
@@ -18,3 +19,10 @@ HasXid (RpcMismatch xid) n = n ≡ xid
 HasXid (BadCred xid) n = n ≡ xid
 HasXid (RejectedCred xid) n = n ≡ xid
 HasXid (Memory xid) n = n ≡ xid
+
+-- it asks for something, under this number
+abbrev pub IsAskedBy : Asked → ℕ → Type 0
+IsAskedBy Ends n = ⊥
+IsAskedBy (Says xid reply) n = xid ≡ n
+IsAskedBy (Reads xid args) n = xid ≡ n
+IsAskedBy (Writes xid args) n = xid ≡ n

@@ -15,7 +15,6 @@ use Rattle.nfs_types.specs.declared.status.TheConstants.{NFS3ERR_BADHANDLE, NFS3
 use Rattle.nfs_wire.specs.declared.args.Args.{Args}
 use Rattle.nfs_wire.specs.declared.args.Args.TheVariants as args
 use Rattle.nfs_wire.specs.Arguments.{args_of}
-use Rattle.nfsgw.specs.declared.message.ReadArgs.{ReadArgs}
 use Rattle.nfsgw.specs.declared.message.WriteArgs.{WriteArgs}
 use Rattle.nfsgw.specs.declared.message.Asked.{Asked}
 use Rattle.nfsgw.specs.declared.message.Asked.TheVariants.{Ends, Says, Reads, Writes}

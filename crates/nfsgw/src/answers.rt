@@ -94,12 +94,8 @@ pub fn send_left<F: AppendFile, M: PendingMap>(
     text
 }
 
-/// Spends what a request of an open file was answered, which isn't want of memory.
-pub fn conclude(
-    alloc: Global,
-    desk: &mut ReplyDesk,
-    verdict: Verdict,
-) -> Result<String, AllocError>
+/// Sends what a request of an open file was answered.
+pub fn conclude(alloc: Global, desk: &mut ReplyDesk, verdict: Verdict) -> Result<String, AllocError>
     requires plain { ArePlainIn verdict }
     ensures desk { desk.new ≡ (send desk.old (answers_of verdict)).desk }
     ensures last { desk.new.last ≡ desk.old.last }

@@ -3,8 +3,8 @@ ghost use Rattle.std.specs.Prelude.{◌≡◌, ◌≢◌, ℕ, IfOk, IfErr, OnOk
 ghost use Rattle.rpc_msg.specs.declared.fault.CallFault.{CallFault};
 ghost use Rattle.rpc_msg.specs.Views.{call_view};
 ghost use Rattle.nfsgw.specs.declared.message.Asked.{Asked};
-ghost use Rattle.nfsgw.specs.Messages.{xid_of, is_served, reply_to, mismatch_text, write_with, asked_with, asked_by_call, asked_by_fault, asked_of, bars, miscounts, IsFew, refusal_of};
-ghost use Rattle.nfsgw.specs.Asking.{Gives, HasXid};
+ghost use Rattle.nfsgw.specs.Messages.{xid_of, is_served, reply_to, mismatch_text, write_with, asked_with, asked_by_call, asked_by_fault, asked_of, bars, IsFew, refusal_of};
+ghost use Rattle.nfsgw.specs.Asking.{Gives, HasXid, IsAskedBy};
 
 use bytes::Bytes;
 use gw_model::{FileId, Stable};
@@ -86,12 +86,13 @@ const DATA_FILE: FileId = FileId(4);
 
 const FSID: u64 = 1;
 
-/// What a message asks for. Fails only for want of memory, and only where the message has a reply or is a WRITE.
+/// What a message asks for. Fails only for want of memory, and only for a message that asks for
+/// something under its own number.
 pub fn read_message(alloc: Global, message: Bytes) -> Result<Asked, Refused>
     ensures asked { IfOk result (λ a. a ≡ asked_of message) }
     ensures few { IfOk result IsFew }
     ensures xid { IfErr result (λ e. e.xid ≡ xid_of message) }
-    ensures answered { IfErr result (λ _. asked_of message ≢ Asked.Ends) }
+    ensures asked_by { IfErr result (λ e. IsAskedBy (asked_of message) e.xid) }
 {
     match read_call(alloc, message) {
         Ok(call) => call_asked(alloc, call),
@@ -250,7 +251,7 @@ pub fn refusal(args: &WriteArgs, in_tree: bool) -> Option<u32>
 
 #[cfg(test)]
 mod tests {
-    // Messages that were made by hand from RFC 5531 section 9 and RFC 1813 sections 3.3.7, 5.1 and 5.2.
+    // Messages that were made by hand from RFC 5531 section 9 and RFC 1813 sections 3.3.6, 3.3.7, 5.1 and 5.2.
     use super::*;
     use handles::handle_of;
     use std::test::Fail;
@@ -264,6 +265,32 @@ mod tests {
     const FOUR: [u8; 32] = [
         0, 0, 0, 0, 0, 0, 0, 4, 0, 0, 0, 0, 0, 0, 0, 1, 0x21, 0xe0, 0xf2, 0x97, 0x5a, 0x84, 0xe7,
         0x8c, 0xec, 0x58, 0x78, 0x7a, 0xf2, 0x8b, 0xde, 0x14,
+    ];
+
+    // A READ of 5 bytes at offset 2^32 + 2 of file 4.
+    const READ_CALL: [u32; 22] = [
+        9,
+        0,
+        2,
+        100_003,
+        3,
+        6,
+        0,
+        0,
+        0,
+        0,
+        32,
+        0,
+        4,
+        0,
+        1,
+        0x21e0_f297,
+        0x5a84_e78c,
+        0xec58_787a,
+        0xf28b_de14,
+        1,
+        2,
+        5,
     ];
 
     // A WRITE of `abcde` at offset 2^32 + 2 of file 4.
@@ -388,32 +415,6 @@ mod tests {
         assert!(rt; !kept.is_unique());
         Ok(())
     }
-
-    // A READ of 5 bytes at offset 2^32 + 2 of file 4.
-    const READ_CALL: [u32; 22] = [
-        9,
-        0,
-        2,
-        100_003,
-        3,
-        6,
-        0,
-        0,
-        0,
-        0,
-        32,
-        0,
-        4,
-        0,
-        1,
-        0x21e0_f297,
-        0x5a84_e78c,
-        0xec58_787a,
-        0xf28b_de14,
-        1,
-        2,
-        5,
-    ];
 
     #[test]
     fn reads_a_read(rt: HostRuntime) -> Result<(), Fail> {

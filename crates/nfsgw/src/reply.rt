@@ -1,12 +1,11 @@
 // Replies, and the lines of the output.
-ghost use Rattle.std.specs.Prelude.{◌≡◌, ◌<◌, ◌++◌, ◌^◌, IfOk, OnOk, length, string_bytes};
+ghost use Rattle.std.specs.Prelude.{◌≡◌, ◌++◌, IfOk, OnOk, length, string_bytes};
 ghost use Rattle.rpc_record.specs.Records.{mark_text};
 ghost use Rattle.rpc_msg.specs.Replies.{accepted};
 ghost use Rattle.admit.specs.Answers.{body_of, IsPlain};
 ghost use Rattle.nfs_types.specs.Rows.{text};
 ghost use Rattle.nfs_wire.specs.Heads.{body_data, body_results};
 ghost use Rattle.nfs_wire.specs.Results.{results_row};
-ghost use Rattle.tickets.specs.declared.answer.Body.TheVariants.{SystemErr as SystemErrBody};
 ghost use Rattle.nfsgw.specs.Text.{generation, hex_line, reply_bytes, reply_line, closed_line, text_in};
 
 use nfs_wire::body_head;
@@ -28,7 +27,9 @@ fn data_of(body: &Body) -> &[u8]
 {
     match body {
         Body::Read {
-            status: 0, bytes, ..
+            status: 0,
+            bytes,
+            ..
         } => bytes,
         _ => &[],
     }
