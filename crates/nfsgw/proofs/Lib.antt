@@ -7,3 +7,9 @@ pub mod Traffic
 pub mod Replies
 pub mod Assembling
 pub mod Ready
+pub mod Growing
+pub mod Doing
+pub mod Hearing
+pub mod Linking
+pub mod Runs
+pub mod Finishes
