@@ -24,7 +24,7 @@ prefix-trans a b c p q = (p.0 ++ q.0, q.1 ∙ ap (λ x. x ++ q.0) p.1 ∙ append
 
 open_body : (opened : Option CellState) (body : List ℕ) (w : World) → IsOpen opened body w → body_in w.body w.opened ≡ body
 open_body None body w h = ap (body_in w.body) h.0 ∙ h.1
-open_body (Some c) body w h = ap (body_in w.body) h.1.0 ∙ h.1.1.1
+open_body (Some c) body w h = ap (body_in w.body) h.1 ∙ h.3
 
 pub world_body : (s : Scene) (w : World) → IsWorld s w → body_of w ≡ s.body
 world_body s w is = open_body s.kept.opened s.body w is.opened

@@ -1,5 +1,5 @@
 -- What the body holds only grows.
-use Rattle.std.proofs.Common.{List, Unit}
+use Rattle.std.proofs.Common.{List}
 use Rattle.gw_model.specs.Ahead.{Ahead}
 use Rattle.transcript.specs.Writing.{IsPrefix}
 use Rattle.nfsgw.specs.Acts.{Act}

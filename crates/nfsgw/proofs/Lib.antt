@@ -13,3 +13,5 @@ pub mod Hearing
 pub mod Linking
 pub mod Runs
 pub mod Finishes
+pub mod Clearing
+pub mod StepCases

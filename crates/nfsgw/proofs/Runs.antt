@@ -84,7 +84,11 @@ module _ (tells : Type 0) (state new : Serving) (first : Bool) (k : ℕ) (pendin
     abbrev after : Outside
     after = record { left = left'; held = held'; body = body'; faults = faults' }
 
-    pub event_turn : (is : Turn) → IsEventTurn tells is event state new before after
+    -- no event looks at the source
+    abbrev beside : Outside
+    beside = record after { left = left }
+
+    pub event_turn : (is : Turn) → IsEventTurn tells is event state new before beside
         → Turns tells is (record { state = state; first = first; before = k; pending = pending }) (record { state = new; first = false; before = k + 1; pending = rest }) before after
     event_turn turn.More m =
         let s = m.step in record {
@@ -265,7 +269,7 @@ module _ (tells : Type 0) (a b c : Outside) (here there : Place) (s t : Traffic)
   ending turn.More n h f m = absurd (n refl)
   ending turn.Ended n h f m = λ more. closes more AtEnd m.0 (m.1 more)
   ending turn.Bad n h f m = λ more. closes more AtBad m.0 (m.1 more)
-  ending turn.Open n h f m = (closes_open h m.0 m.1.0, m.1.1)
+  ending turn.Open n h f m = (closes_open h m.0 m.1, m.2)
   ending turn.ReadFault n h f m = closes_open h m.0 m.1
   ending turn.StoreFault n h f m = λ told. halts f told m
   ending turn.WriteFault n h f m = λ told later. short_ends f told m later

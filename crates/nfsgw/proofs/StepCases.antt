@@ -1,0 +1,67 @@
+-- The steps of the program, event by event.
+use Rattle.std.proofs.Common.{◌≡◌, ℕ, ◌-◌, ◌^◌, ◌<◌, false, true, List, [], ◌∷◌, refl, subst, sym, Result, Ok, Err, IfOk, OnErr, String, Global, string_bytes}
+use Rattle.std.specs.declared.alloc.AllocError.{AllocError}
+use Rattle.nfsgw.specs.Acts.{Act, Make, Begins, Says, Writes, Reads, Ends, Turns, Pumps, act_ends}
+use Rattle.nfsgw.specs.Requests.{IsRequest}
+use Rattle.nfsgw.specs.Links.{Front, Arrival, link_at, heard_at, arrival}
+use Rattle.nfsgw.specs.Outside.{Scene, IsStep, IsCut, Cuts, IsActed, IsReceived, IsStepped}
+use Rattle.nfsgw.specs.declared.world.Stepped.{Stepped}
+use Rattle.nfsgw.specs.declared.world.Stepped.TheVariants as stepped
+use Rattle.nfsgw.specs.declared.grammar.Event.{Event}
+use Rattle.nfsgw.specs.declared.grammar.Event.TheVariants.{MakeFile, Bytes, Turn, Pump}
+use Rattle.nfsgw.proofs.Doing.{begin_in, begin_cut, cuts_one, does_begin, does_one, stops_one}
+
+pub always_err : {T E : Type 0} {Q : Type 0} (r : Result T E) → Q → OnErr r Q
+always_err (Ok t) q = tt
+always_err (Err e) q = q
+
+-- a connection goes on after a request
+pub request_goes_on : (act : Act) (conn xid : ℕ) → IsRequest act conn xid → false ≡ act_ends act
+request_goes_on Make conn xid h = refl
+request_goes_on Begins conn xid h = refl
+request_goes_on (Says c x reply) conn xid h = refl
+request_goes_on (Writes c call) conn xid h = refl
+request_goes_on (Reads c call) conn xid h = refl
+request_goes_on (Ends c) conn xid h = absurd h
+request_goes_on Turns conn xid h = refl
+request_goes_on Pumps conn xid h = refl
+
+-- the file is made, and is in the tree then
+pub made_stepped : (tells : Type 0) (result : Stepped) (before after : Front) (old new : Scene) → IsActed tells result Make old new → after ≡ record before { in_tree = true } → IsStepped tells result MakeFile before after old new
+unfolding arrival
+made_stepped tells (stepped.Text text) before after old new m is = (is, does_one tells Make old new (string_bytes text) m)
+made_stepped tells stepped.StoreFault before after old new m is = stops_one tells Make old new m
+made_stepped tells stepped.NoMemory before after old new m is = cuts_one tells Make [] old new m
+
+module _ (tells : Type 0) (r : Result (String Global) AllocError) (result : Stepped) (before after : Front) (old new : Scene) (few : old.kept.noted.event < 2 ^ 64 - 1)
+    (ok : IfOk r (λ t. result ≡ stepped.Text t)) (err : OnErr r (result ≡ stepped.NoMemory)) where
+  -- a piece came, and its text was made or not
+  pub received_stepped : (conn : ℕ) (piece : List ℕ) → IfOk r (λ t. IsReceived tells conn piece before after (string_bytes t) (begin_in old) new)
+      → OnErr r (Cuts tells (heard_at (link_at conn before.links) conn piece before).acts (begin_in old) new) → IsStepped tells result (Bytes conn piece) before after old new
+  unfolding arrival
+  received_stepped conn piece s u = go r ok err s u
+    where
+      go : (r : Result (String Global) AllocError) → IfOk r (λ t. result ≡ stepped.Text t) → OnErr r (result ≡ stepped.NoMemory) → IfOk r (λ t. IsReceived tells conn piece before after (string_bytes t) (begin_in old) new)
+          → OnErr r (Cuts tells (heard_at (link_at conn before.links) conn piece before).acts (begin_in old) new) → IsStepped tells result (Bytes conn piece) before after old new
+      go (Ok t) e f s u =
+          subst (λ x. IsStepped tells x (Bytes conn piece) before after old new) (sym e)
+          (s.0, does_begin tells (heard_at (link_at conn before.links) conn piece before).acts old new (string_bytes t) few s.1)
+      go (Err x) e f s u = subst (λ x. IsStepped tells x (Bytes conn piece) before after old new) (sym f) (begin_cut tells (heard_at (link_at conn before.links) conn piece before).acts old new few u)
+
+  -- an event of one act, whose text was made or not
+  acted_stepped : (event : Event) (act : Act) → arrival before event ≡ (let a : Arrival = record { acts = Begins ∷ act ∷ []; front = before } in a) → after ≡ before
+      → IfOk r (λ t. IsStep tells act (begin_in old) new (string_bytes t) false) → OnErr r (IsCut tells act (begin_in old) new) → IsStepped tells result event before after old new
+  acted_stepped event act is same s u = go r ok err s u
+    where
+      go : (r : Result (String Global) AllocError) → IfOk r (λ t. result ≡ stepped.Text t) → OnErr r (result ≡ stepped.NoMemory) → IfOk r (λ t. IsStep tells act (begin_in old) new (string_bytes t) false)
+          → OnErr r (IsCut tells act (begin_in old) new) → IsStepped tells result event before after old new
+      go (Ok t) e f s u = rw (e, is) (same, does_begin tells (act ∷ []) old new (string_bytes t) few (does_one tells act (begin_in old) new (string_bytes t) s))
+      go (Err x) e f s u = rw (f, is) (begin_cut tells (act ∷ []) old new few (cuts_one tells act [] (begin_in old) new u))
+
+  pub turn_stepped : after ≡ before → IfOk r (λ t. IsStep tells Turns (begin_in old) new (string_bytes t) false) → OnErr r (IsCut tells Turns (begin_in old) new) → IsStepped tells result Turn before after old new
+  unfolding arrival
+  turn_stepped same s u = acted_stepped Turn Turns refl same s u
+
+  pub pump_stepped : after ≡ before → IfOk r (λ t. IsStep tells Pumps (begin_in old) new (string_bytes t) false) → OnErr r (IsCut tells Pumps (begin_in old) new) → IsStepped tells result Pump before after old new
+  unfolding arrival
+  pump_stepped same s u = acted_stepped Pump Pumps refl same s u
