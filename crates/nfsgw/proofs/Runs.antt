@@ -147,6 +147,10 @@ module _ (tells : Type 0) (state new : Serving) (first : Bool) (k : ℕ) (pendin
     event_turn turn.Open m = absurd m
     event_turn turn.ReadFault m = absurd m
 
+-- no event ends in a fault of the source
+pub no_read_fault : (tells : Type 0) (is : Turn) (event : Event) (old new : Serving) (o p : Outside) → IsEventTurn tells is event old new o p → is ≢ turn.ReadFault
+no_read_fault tells is event old new o p m e = rw e at m
+
 -- only the source was used
 pub only_read : (tells : Type 0) (is : Turn) (here there : Place) (left left' held : Option (List ℕ)) (body : List ℕ) (faults : ℕ) (taken : List ℕ) → Consumes left left' taken → there.state ≡ here.state
     → IsTurn is tells here there (record { left = left; held = held; body = body; faults = faults }) (record { left = left'; held = held; body = body; faults = faults }) (reading taken)
@@ -159,14 +163,15 @@ only_read tells is here there left left' held body faults taken r same m = recor
   turn_is = m;
 }
 
-pub rests : (here there : Place) (before after : Outside) (taken : List ℕ) → there.state ≡ here.state → after.body ≡ before.body → Rests here there before after (reading taken)
-rests here there before after taken e b = record { state = e; body = b; written = refl; outcomes = refl }
+pub rests : (here there : Place) (o p : Outside) (taken : List ℕ) → there.state ≡ here.state → p.body ≡ o.body → Rests here there o p (reading taken)
+rests here there o p taken e b = record { state = e; body = b; written = refl; outcomes = refl }
 
-pub goes_nowhere : (tells : Type 0) (here : Place) (before after : Outside) (taken : List ℕ) → after.body ≡ before.body → GoesShort tells here before after (reading taken)
-goes_nowhere tells here before after taken same = λ told w is later.
+-- memory was refused before anything was done
+pub refused_line : (tells : Type 0) (here there : Place) (left left' held : Option (List ℕ)) (body : List ℕ) (faults : ℕ) (taken : List ℕ) → Consumes left left' taken → there.state ≡ here.state
+    → Turns tells turn.NoMemory here there (record { left = left; held = held; body = body; faults = faults }) (record { left = left'; held = held; body = body; faults = faults })
+refused_line tells here there left left' held body faults taken r same = only_read tells turn.NoMemory here there left left' held body faults taken r same (λ told w is later.
     let t = ahead_at here.state.kept.noted (map outcome_of later) in
-    let acts = acts_of here.state.front (script_at here (here.pending ++ taken)).events in
-    ((_, refl), subst (λ b. (rest : List ℕ) × ((told_of w acts t).body ≡ b ++ rest)) (sym same) (world_grows (scene_at here before) w is acts t))
+    ((_, refl), world_grows (record { kept = here.state.kept; body = body; faults = faults }) w is (acts_of here.state.front (script_at here (here.pending ++ taken)).events) t))
 
 -- all lines
 
@@ -226,7 +231,7 @@ module _ (tells : Type 0) (a b c : Outside) (here there : Place) (s t : Traffic)
       = subst (λ x. Comes tells (scene_of initial a) (scene_of here.state.kept b) s.outcomes s.written (reading_on beginning.state.front x) at_end) (sym before)
       (subst (λ x. Comes tells (scene_of initial a) (scene_of here.state.kept b) s.outcomes s.written (reading_on beginning.state.front (script (s.taken ++ (t.taken ++ more)))) (reading_on here.state.front x)) now (p.comes (t.taken ++ more))) in
       rw (rest.written, rest.outcomes, append-nil, append-nil) (record {
-        comes = same_scene tells (scene_of initial a) here.state.kept there.state.kept b c s.outcomes s.written _ at_end (ap (λ (x : Serving). x.kept) rest.state) rest.body comes;
+        comes = same_scene tells (scene_of initial a) here.state.kept there.state.kept b c s.outcomes s.written (reading_on beginning.state.front (script ((s.taken ++ t.taken) ++ more))) at_end (ap (λ (x : Serving). x.kept) rest.state) rest.body comes;
         stopped = ap (λ x. x.stop) before ∙ p.stop (t.taken ++ more) ∙ ap (λ x. x.stop) now;
         count = let n = ap (λ x. length x.events + 0) before ∙ p.count (t.taken ++ more) ∙ ap (λ x. length x.events + here.before) now in omega (arith, n);
       })

@@ -3,7 +3,7 @@ use Rattle.std.specs.Prelude.{◌==◌}
 use Rattle.nfsgw.specs.Grammar.{line_of as line_of_text}
 use Rattle.nfsgw.specs.declared.grammar.Line.TheVariants.{Go, End}
 use Rattle.nfsgw.proofs.Ready.{line_ready}
-use Rattle.nfsgw.proofs.Runs.{event_turn, only_read, rests, goes_nowhere, settles_end, settles_bad, settles_long}
+use Rattle.nfsgw.proofs.Runs.{event_turn, only_read, rests, refused_line, no_read_fault, settles_end, settles_bad, settles_long}
 use Rattle.nfsgw.proofs.run.one_line.Goals as goal
 
 pub returns-in-Ok-Some-Go-clause-moves : goal.returns-in-Ok-Some-Go-clause-moves
@@ -48,9 +48,12 @@ one_event-requires-clause-ready g c =
 pub returns-in-Err-clause-moves : goal.returns-in-Err-clause-moves
 returns-in-Err-clause-moves g c =
     let r = c.in-Line.ensures.bytes in
-    only_read g.C.File.AppendFile.tells _ _ _ _ _ _ _ _ r.0 r.1 refl (goes_nowhere g.C.File.AppendFile.tells (record { state = c.args.gateway.now; first = c.args.before == 0; before = c.args.before; pending = c.args.lines.now.pending }) _ _ r.0 refl)
+    refused_line g.C.File.AppendFile.tells _ _ _ _ _ _ _ r.0 r.1 refl
 
 pub returns-in-NoMemory-clause-moves : goal.returns-in-NoMemory-clause-moves
 returns-in-NoMemory-clause-moves g c =
     let r = c.in-NoMemory.ensures.bytes in
-    only_read g.C.File.AppendFile.tells _ _ _ _ _ _ _ _ r.0 r.1 refl (goes_nowhere g.C.File.AppendFile.tells (record { state = c.args.gateway.now; first = c.args.before == 0; before = c.args.before; pending = c.args.lines.now.pending }) _ _ r.0 refl)
+    refused_line g.C.File.AppendFile.tells _ _ _ _ _ _ _ r.0 r.1 refl
+
+pub returns-in-Ok-Some-Go-clause-read_cause : goal.returns-in-Ok-Some-Go-clause-read_cause
+returns-in-Ok-Some-Go-clause-read_cause g c = λ q. absurd (no_read_fault g.C.File.AppendFile.tells c.one_event.result _ _ _ _ _ (c.one_event.ensures.moves (g.S.Source.left c.args.source.now)) q)
