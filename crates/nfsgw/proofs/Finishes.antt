@@ -122,19 +122,16 @@ module _ (tells : Type 0) (before after : Outside) (state : Serving) where
     shortened : IsShortOf tells before after s.taken s → IsShort before.body s.taken s
     shortened g later = let f = g told later in (f.0, (f.1.0, f.1.1 ∙ ap (λ x. x ++ f.1.0) grew))
 
-    cut_short : (is : Turn) (n : ℕ) → (is ≡ turn.StoreFault) ⊎ ((is ≡ turn.WriteFault) ⊎ (is ≡ turn.NoMemory)) → IsEnding is tells n s state before after → IsRun (status_by is n) before.body (transcript s) s
-    cut_short is n which e = go is which e
-      where
-        abbrev Ending : Turn → Type 0
-        Ending x = IsEnding x tells n s state before after
+    abbrev CutEnding : ℕ → Turn → Type 0
+    CutEnding n x = IsEnding x tells n s state before after
 
-        abbrev Run : Turn → Type 0
-        Run x = IsRun (status_by x n) before.body (transcript s) s
+    abbrev CutRun : ℕ → Turn → Type 0
+    CutRun n x = IsRun (status_by x n) before.body (transcript s) s
 
-        go : (x : Turn) → (x ≡ turn.StoreFault) ⊎ ((x ≡ turn.WriteFault) ⊎ (x ≡ turn.NoMemory)) → Ending x → Run x
-        go x (inl q) g = subst Run (sym q) (halted (subst Ending q g))
-        go x (inr (inl q)) g = subst Run (sym q) (shortened (subst Ending q g))
-        go x (inr (inr q)) g = subst Run (sym q) (shortened (subst Ending q g))
+    cut_short : (is : Turn) (n : ℕ) → (is ≡ turn.StoreFault) ⊎ ((is ≡ turn.WriteFault) ⊎ (is ≡ turn.NoMemory)) → CutEnding n is → CutRun n is
+    cut_short is n (inl q) g = subst (CutRun n) (sym q) (halted (subst (CutEnding n) q g))
+    cut_short is n (inr (inl q)) g = subst (CutRun n) (sym q) (shortened (subst (CutEnding n) q g))
+    cut_short is n (inr (inr q)) g = subst (CutRun n) (sym q) (shortened (subst (CutEnding n) q g))
 
 -- the file is given back, and more was written
 
@@ -183,21 +180,21 @@ module _ (tells : Type 0) (is : Turn) (n : ℕ) (state : Serving) (before : Outs
     run = λ told. short tells before lines_done state told history is_history e.traffic (e.moves.puts told) is n w.0 ns nw nm e.ending w.2;
   }
 
+  abbrev CutRead : Turn → Type 0
+  CutRead x = IsRead (status_by x n) (e.traffic.taken ++ unwrap_or left []) e.traffic
+
+  cut_read : (x : Turn) → (x ≡ turn.StoreFault) ⊎ ((x ≡ turn.WriteFault) ⊎ (x ≡ turn.NoMemory)) → CutRead x
+  cut_read x (inl q) = subst CutRead (sym q) tt
+  cut_read x (inr (inl q)) = subst CutRead (sym q) tt
+  cut_read x (inr (inr q)) = subst CutRead (sym q) tt
+
   pub runs_cut : (is ≡ turn.StoreFault) ⊎ ((is ≡ turn.WriteFault) ⊎ (is ≡ turn.NoMemory)) → Runs tells (status_by is n) before (ended mid)
   runs_cut which = record {
     traffic = e.traffic;
     moves = moved_only;
-    read = go is which;
+    read = cut_read is which;
     run = λ told. cut_short tells before lines_done state told history is_history e.traffic (e.moves.puts told) is n which e.ending;
   }
-    where
-      abbrev Read : Turn → Type 0
-      Read x = IsRead (status_by x n) (e.traffic.taken ++ unwrap_or left []) e.traffic
-
-      go : (x : Turn) → (x ≡ turn.StoreFault) ⊎ ((x ≡ turn.WriteFault) ⊎ (x ≡ turn.NoMemory)) → Read x
-      go x (inl q) = subst Read (sym q) tt
-      go x (inr (inl q)) = subst Read (sym q) tt
-      go x (inr (inr q)) = subst Read (sym q) tt
 
 pub runs_usage : (tells : Type 0) (o : Outside) → Runs tells status.Usage o o
 runs_usage tells o = record { traffic = nothing; moves = Moves-nil tells o; read = refl; run = λ told. tt }

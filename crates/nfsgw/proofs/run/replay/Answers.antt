@@ -11,9 +11,9 @@ returns-in-StoreFault-clause-run g c =
     let e = c.all_lines-ending.ensures in
     rw c.status_of.ensures (runs_cut g.C.File.AppendFile.tells ending.turn ending.lines c.all_lines-ending.new.gateway _
     (g.S.Source.left c.all_lines-ending.new.source) (g.K.Sink.held c.all_lines-ending.new.sink)
-    (body_at (g.C.Cluster.at c.all_lines-ending.new.cluster body_id) c.all_lines-ending.new.gateway.kept.opened) (bytes_of (g.C.Cluster.at c.finish.new.cluster body_id))
-    (g.C.Cluster.count c.all_lines-ending.new.cluster) (g.C.Cluster.count c.finish.new.cluster)
-    e.moves c.finish.ensures.count c.finish.ensures.bytes (history_left c.finish.result) c.finish.ensures.history c.in-StoreFault.is)
+    (body_at (g.C.Cluster.at c.all_lines-ending.new.cluster body_id) c.all_lines-ending.new.gateway.kept.opened) (bytes_of (g.C.Cluster.at c.finish-ended.new.cluster body_id))
+    (g.C.Cluster.count c.all_lines-ending.new.cluster) (g.C.Cluster.count c.finish-ended.new.cluster)
+    e.moves c.finish-ended.ensures.count c.finish-ended.ensures.bytes (history_left c.finish-ended.result) c.finish-ended.ensures.history c.in-StoreFault.is)
 
 pub returns-in-Whole : goal.returns-in-Whole
 returns-in-Whole g c =
@@ -23,15 +23,15 @@ returns-in-Whole g c =
     record {
       run = rw s (runs_whole g.C.File.AppendFile.tells ending.turn ending.lines c.all_lines-ending.new.gateway _
           (g.S.Source.left c.all_lines-ending.new.source) (g.K.Sink.held c.all_lines-ending.new.sink)
-          (body_at (g.C.Cluster.at c.all_lines-ending.new.cluster body_id) c.all_lines-ending.new.gateway.kept.opened) (bytes_of (g.C.Cluster.at c.finish.new.cluster body_id))
-          (g.C.Cluster.count c.all_lines-ending.new.cluster) (g.C.Cluster.count c.finish.new.cluster)
-          e.moves c.finish.ensures.count c.finish.ensures.bytes (history_left c.finish.result) c.finish.ensures.history
+          (body_at (g.C.Cluster.at c.all_lines-ending.new.cluster body_id) c.all_lines-ending.new.gateway.kept.opened) (bytes_of (g.C.Cluster.at c.finish-ended.new.cluster body_id))
+          (g.C.Cluster.count c.all_lines-ending.new.cluster) (g.C.Cluster.count c.finish-ended.new.cluster)
+          e.moves c.finish-ended.ensures.count c.finish-ended.ensures.bytes (history_left c.finish-ended.result) c.finish-ended.ensures.history
           (g.K.Sink.held c.write_history.new.sink) c.in_default.not-StoreFault c.in_default.not-WriteFault c.in_default.not-NoMemory c.in-Whole.ensures.text);
-      home = c.finish.ensures.home;
+      home = c.finish-ended.ensures.home;
       read_cause = λ q. e.read_cause (status_read ending.turn ending.lines (sym s ∙ q));
       write_cause = λ q. absurd (c.in_default.not-WriteFault (status_write ending.turn ending.lines (sym s ∙ q)));
       store_cause = λ q. absurd (c.in_default.not-StoreFault (status_store ending.turn ending.lines (sym s ∙ q)));
-      others = λ told q apart. c.finish.ensures.others told q apart ∙ e.others told q apart;
+      others = λ told q apart. c.finish-ended.ensures.others told q apart ∙ e.others told q apart;
       not_usage = λ q. status_usage ending.turn ending.lines (sym s ∙ q);
     }
 
@@ -44,14 +44,14 @@ returns-in-WriteFault g c =
     record {
       run = runs_short g.C.File.AppendFile.tells ending.turn ending.lines c.all_lines-ending.new.gateway _
           (g.S.Source.left c.all_lines-ending.new.source) (g.K.Sink.held c.all_lines-ending.new.sink)
-          (body_at (g.C.Cluster.at c.all_lines-ending.new.cluster body_id) c.all_lines-ending.new.gateway.kept.opened) (bytes_of (g.C.Cluster.at c.finish.new.cluster body_id))
-          (g.C.Cluster.count c.all_lines-ending.new.cluster) (g.C.Cluster.count c.finish.new.cluster)
-          e.moves c.finish.ensures.count c.finish.ensures.bytes (history_left c.finish.result) c.finish.ensures.history
+          (body_at (g.C.Cluster.at c.all_lines-ending.new.cluster body_id) c.all_lines-ending.new.gateway.kept.opened) (bytes_of (g.C.Cluster.at c.finish-ended.new.cluster body_id))
+          (g.C.Cluster.count c.all_lines-ending.new.cluster) (g.C.Cluster.count c.finish-ended.new.cluster)
+          e.moves c.finish-ended.ensures.count c.finish-ended.ensures.bytes (history_left c.finish-ended.result) c.finish-ended.ensures.history
           (g.K.Sink.held c.write_history.new.sink) c.in_default.not-StoreFault c.in_default.not-WriteFault c.in_default.not-NoMemory c.in-WriteFault.ensures.text;
-      home = c.finish.ensures.home;
+      home = c.finish-ended.ensures.home;
       read_cause = λ q. cc;
       write_cause = λ q. omega (arith, rose, later);
       store_cause = λ q. cc;
-      others = λ told q apart. c.finish.ensures.others told q apart ∙ e.others told q apart;
+      others = λ told q apart. c.finish-ended.ensures.others told q apart ∙ e.others told q apart;
       not_usage = λ q. cc;
     }
