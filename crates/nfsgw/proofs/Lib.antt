@@ -15,3 +15,4 @@ pub mod Runs
 pub mod Finishes
 pub mod Clearing
 pub mod StepCases
+mod Rows
