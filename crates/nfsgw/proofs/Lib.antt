@@ -11,3 +11,11 @@ pub mod Growing
 pub mod Acting
 pub mod Opens
 pub mod Links
+pub mod Doing
+pub mod Hearing
+pub mod Linking
+pub mod Runs
+pub mod Finishes
+pub mod Clearing
+pub mod StepCases
+mod Rows

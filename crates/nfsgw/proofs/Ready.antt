@@ -1,11 +1,12 @@
 -- What a line of the grammar may ask for, and where the body is.
-use Rattle.std.proofs.Common.{◌≡◌, ℕ, Bool, true, false, ◌+◌, ◌&&◌, take, drop, List, Option, Some, None, refl, subst}
+use Rattle.std.proofs.Common.{◌≡◌, ℕ, Bool, true, false, ◌+◌, ◌&&◌, take, drop, List, Option, Some, None, refl, sym, ◌∙◌, ap, subst}
 use Rattle.std.specs.Prelude.{bytes_eq, nat_eq, position, codes, ◌==◌, if◌then◌else◌}
 use Rattle.std.specs.List.{starts_with}
 use Rattle.file_cell.specs.State.{CellState}
 use Rattle.append_store.specs.State.{ObjectState, Missing, Kept, Lent, IsThere, IsAway}
 use Rattle.transcript.specs.Fields.{number_of, bytes_of}
 use Rattle.nfsgw.specs.Grammar.{line_of, bytes_line, piece_in, file_line, is_name}
+use Rattle.nfsgw.specs.Answering.{SameFile}
 use Rattle.nfsgw.specs.Outside.{Safe, Home, Stands, IsReady}
 use Rattle.nfsgw.specs.declared.grammar.Event.{Event}
 use Rattle.nfsgw.specs.declared.grammar.Event.TheVariants.{MakeFile, Bytes, Turn, Pump}
@@ -25,6 +26,14 @@ home_safe tells s (Some c) h = h
 pub stands_safe : (tells : Type 0) (in_tree : Bool) (s : ObjectState) (opened : Option CellState) → Stands tells in_tree s opened → Safe tells s opened
 stands_safe tells false s opened h = rw h.0 h.1
 stands_safe tells true s opened h = home_safe tells s opened h
+
+-- the same file is out
+pub stands_same : (tells : Type 0) (in_tree : Bool) (s : ObjectState) (opened opened' : Option CellState) → SameFile opened opened' → Stands tells in_tree s opened → Stands tells in_tree s opened'
+stands_same tells in_tree s None None same h = h
+stands_same tells false s (Some c) (Some d) same h = absurd (cc h.0)
+stands_same tells true s (Some c) (Some d) same h = λ told. h told ∙ ap Lent (sym same)
+stands_same tells in_tree s None (Some d) same h = absurd same
+stands_same tells in_tree s (Some c) None same h = absurd same
 
 -- only the first line makes the file
 abbrev IsKind : Bool → Option Line → Type 0

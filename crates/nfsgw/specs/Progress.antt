@@ -10,7 +10,8 @@ use Rattle.nfsgw.specs.Grammar.{read}
 use Rattle.nfsgw.specs.Headline.{Outside, Traffic, Moves, script, output, outcome_of}
 use Rattle.nfsgw.specs.Links.{no_links, arrival, acts_of}
 use Rattle.nfsgw.specs.World.{World, Told, told_of, told_at_end}
-use Rattle.nfsgw.specs.Outside.{Kept, Scene, Serving, Way, IsWorld, ahead_at, IsAfter, Comes, IsHalted, Does, Stops, Cuts}
+use Rattle.nfsgw.specs.Acts.{Act}
+use Rattle.nfsgw.specs.Outside.{Kept, Scene, Serving, Way, IsWorld, ahead_at, IsAfter, Passed, Comes, IsHalted, acting, Stops, Cuts}
 use Rattle.nfsgw.specs.declared.grammar.Event.{Event}
 use Rattle.nfsgw.specs.declared.run.Turn.{Turn}
 use Rattle.nfsgw.specs.declared.run.Turn.TheVariants as turn
@@ -95,17 +96,24 @@ pub record Turns (tells : Type 0) (turn : Turn) (here there : Place) (before aft
   pub follows : Follows here there traffic.outcomes
   pub turn_is : IsTurn turn tells here there before after traffic
 
+-- Acts that were done, whatever acts and outcomes come later; their outcomes needn't be noted any more.
+pub record Did (tells : Type 0) (acts : List Act) (old new : Scene) (text : List ℕ) : Type 0 where
+  pub outcomes : List Outcome
+  pub put : List ℕ
+  pub passed : Passed tells old new outcomes put
+  pub next : (rest : List Act) → Comes tells old new outcomes text (acting (acts ++ rest)) (acting rest)
+
 -- one event
 pub record EventDone (tells : Type 0) (event : Event) (old new : Serving) (before after : Outside) : Type 0 where
   pub text : List ℕ
   pub front : new.front ≡ (arrival old.front event).front
-  pub step : Does tells (arrival old.front event).acts (scene_of old.kept before) (scene_of new.kept after) text
+  pub step : Did tells (arrival old.front event).acts (scene_of old.kept before) (scene_of new.kept after) text
   pub writes : Appends before.held after.held text
 
 -- one event, whose text was written in part
 pub record EventCut (tells : Type 0) (event : Event) (old new : Serving) (before after : Outside) : Type 0 where
   pub text : List ℕ
-  pub step : Does tells (arrival old.front event).acts (scene_of old.kept before) (scene_of new.kept after) text
+  pub step : Did tells (arrival old.front event).acts (scene_of old.kept before) (scene_of new.kept after) text
   pub writes : AppendsPrefix before.held after.held text
 
 abbrev pub IsEventTurn : Type 0 → Turn → Event → Serving → Serving → Outside → Outside → Type 0

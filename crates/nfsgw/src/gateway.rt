@@ -164,12 +164,7 @@ impl<C: Cluster> Gateway<C> {
     }
 
     // A connection sends bytes.
-    fn receive(
-        &mut self,
-        conn: u32,
-        piece: &[u8],
-        cluster: &mut C,
-    ) -> Result<String, AllocError>
+    fn receive(&mut self, conn: u32, piece: &[u8], cluster: &mut C) -> Result<String, AllocError>
         requires stands { Stands C.File.tells self.old.front.in_tree (C.at cluster.old body_id) self.old.kept.opened }
         ensures ok { IfOk result (λ text. IsReceived C.File.tells conn piece.now self.old.front self.new.front (string_bytes text) (scene self.old.kept (C.at cluster.old body_id) (C.count cluster.old)) (scene self.new.kept (C.at cluster.new body_id) (C.count cluster.new))) }
         ensures err { OnErr result (Cuts C.File.tells (heard_at (link_at conn self.old.front.links) conn piece.now self.old.front).acts (scene self.old.kept (C.at cluster.old body_id) (C.count cluster.old)) (scene self.new.kept (C.at cluster.new body_id) (C.count cluster.new))) }

@@ -1,0 +1,22 @@
+use Rattle.std.proofs.Common.{string_bytes}
+use Rattle.std.proofs.KnownBytes.{Appends-nil}
+use Rattle.nfsgw.specs.Headline.{Outside}
+use Rattle.nfsgw.specs.Outside.{body_id, body_at, faults_at}
+use Rattle.nfsgw.proofs.Clearing.{event_cut, cuts_cleared}
+use Rattle.nfsgw.proofs.run.one_event.Goals as goal
+
+pub returns-in-Text-clause-moves : goal.returns-in-Text-clause-moves
+returns-in-Text-clause-moves g c = λ left.
+    let written = rw c.as_bytes.ensures.value at c.in-Err.ensures.err in
+    let mid = c.step-stepped.new.self in
+    let done = c.in-Text.ensures.step in
+    rw c.clear.ensures (event_cut g.C.File.AppendFile.tells c.args.event c.args.gateway.now mid c.clear.new.self.kept.noted.room _ _ (string_bytes c.in-Text.text) done.0 done.1 written)
+
+pub returns-clause-moves : goal.returns-clause-moves
+returns-clause-moves g c = λ left.
+    let held = g.K.Sink.held c.args.sink.now in
+    let mid = c.step-stepped.new.self in
+    let s = g.C.Cluster.at c.step-stepped.new.cluster body_id in
+    let after : Outside = record { left = left; held = held; body = body_at s mid.kept.opened; faults = faults_at (g.C.Cluster.count c.step-stepped.new.cluster) mid.kept.opened } in
+    let cut = cuts_cleared g.C.File.AppendFile.tells _ _ mid c.clear.new.self.kept.noted.room after c.in-NoMemory.ensures.step in
+    rw c.clear.ensures (cut, Appends-nil held)
