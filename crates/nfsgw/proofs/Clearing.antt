@@ -4,7 +4,7 @@ use Rattle.std.specs.Io.KnownBytes.{Appends}
 use Rattle.transcript.specs.Writing.{AppendsPrefix}
 use Rattle.nfsgw.specs.Acts.{Act}
 use Rattle.nfsgw.specs.Headline.{Outside}
-use Rattle.nfsgw.specs.Links.{Front, arrival}
+use Rattle.nfsgw.specs.Links.{arrival}
 use Rattle.nfsgw.specs.Outside.{Scene, Serving, Does, Stops, Cuts}
 use Rattle.nfsgw.specs.Progress.{Did, EventDone, EventCut, scene_of}
 use Rattle.nfsgw.specs.declared.grammar.Event.{Event}

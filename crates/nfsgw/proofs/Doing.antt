@@ -1,14 +1,13 @@
 -- Acts that are done one after another.
-use Rattle.std.proofs.Common.{◌≡◌, ℕ, ◌+◌, ◌-◌, ◌^◌, ◌<◌, ◌≤◌, ◌⊎◌, inl, inr, Bool, true, false, List, [], ◌∷◌, ◌++◌, map, Option, Some, None, refl, sym, ◌∙◌, ap, subst, append_assoc, append-nil, arith}
+use Rattle.std.proofs.Common.{◌≡◌, ℕ, ◌-◌, ◌^◌, ◌<◌, inl, inr, Bool, true, false, List, [], ◌∷◌, ◌++◌, map, Option, Some, None, refl, sym, ◌∙◌, ap, subst, append_assoc, append-nil, arith}
 use Rattle.gw_model.specs.Ahead.{Ahead, Outcome, Done, Failed, Listed, NoMemory, Called, Good, Bad}
-use Rattle.gw_model.specs.File.{content}
 use Rattle.gw_model.specs.Views.{Noted, next_event}
 use Rattle.file_cell.specs.State.{CellState}
 use Rattle.transcript.specs.Writing.{IsPrefix}
 use Rattle.nfsgw.specs.Acts.{Act, Begins}
 use Rattle.nfsgw.specs.Headline.{outcome_of}
 use Rattle.nfsgw.specs.World.{World, Turned, Told, body_in, body_of, next, told_of, told_then, onto}
-use Rattle.nfsgw.specs.Outside.{Kept, Scene, Way, IsOpen, IsWorld, IsAfter, IsLater, Passed, IsStep, IsCut, Comes, Does, Stops, Cuts, IsHalted, ahead_at}
+use Rattle.nfsgw.specs.Outside.{Scene, Way, IsOpen, IsWorld, IsAfter, IsLater, Passed, IsStep, IsCut, Comes, Does, Stops, Cuts, IsHalted, ahead_at}
 use Rattle.nfsgw.proofs.Traffic.{Fails-trans}
 use Rattle.nfsgw.proofs.Growing.{good_of, good_next, grows}
 

@@ -1,7 +1,7 @@
 -- What the records of a piece ask for, one after another.
-use Rattle.std.proofs.Common.{◌≡◌, ℕ, ◌+◌, ◌<◌, ◌≤◌, Bool, true, false, List, [], ◌∷◌, ◌++◌, length, drop, refl, sym, ◌∙◌, ap, append_assoc, append-nil, length-append, string_bytes, arith}
+use Rattle.std.proofs.Common.{◌≡◌, ℕ, ◌+◌, ◌<◌, Bool, true, false, List, [], ◌∷◌, ◌++◌, length, drop, refl, sym, ◌∙◌, ap, append_assoc, append-nil, length-append, string_bytes, arith}
 use Rattle.rpc_record.specs.declared.fault.FrameFault.{FrameFault}
-use Rattle.rpc_record.specs.Records.{Records, Open, Fault, Whole, front, records}
+use Rattle.rpc_record.specs.Records.{Records, Open, Fault, Whole, front}
 use Rattle.rpc_record.proofs.Fronts.{whole_shrinks}
 use Rattle.rpc_record.proofs.Streams.{records_open, records_fault, records_whole}
 use Rattle.nfsgw.specs.Acts.{Act, Ends, act_ends}

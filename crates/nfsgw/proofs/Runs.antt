@@ -10,16 +10,16 @@ use Rattle.nfsgw.specs.Grammar.{read, reading_of, line_of}
 use Rattle.nfsgw.specs.Headline.{Outside, Traffic, Moves, nothing, script, outcome_of, output}
 use Rattle.nfsgw.specs.Acts.{Act}
 use Rattle.nfsgw.specs.Links.{Front, arrival, acts_of}
-use Rattle.nfsgw.specs.World.{World, Told, told_of, onto, start}
-use Rattle.nfsgw.specs.Outside.{Kept, Scene, Serving, Way, IsWorld, IsAfter, Comes, Reaches, IsHalted, ahead_at}
-use Rattle.nfsgw.specs.Progress.{Place, Did, script_at, going, scene_of, scene_at, Leads, Rests, Settles, IsFrontOf, GoesShort, Halts, IsTurn, Follows, Turns, IsEventTurn, beginning, initial, at_end, Reached, Closes, IsShortOf, IsHaltedOf, IsEnding, Ends}
+use Rattle.nfsgw.specs.World.{Told, told_of, onto, start}
+use Rattle.nfsgw.specs.Outside.{Kept, Scene, Serving, Way, IsAfter, Comes, Reaches, IsHalted, ahead_at}
+use Rattle.nfsgw.specs.Progress.{Place, script_at, going, scene_of, scene_at, Leads, Rests, Settles, IsFrontOf, GoesShort, Halts, IsTurn, Follows, Turns, IsEventTurn, beginning, initial, at_end, Reached, Closes, IsEnding, Ends}
 use Rattle.nfsgw.specs.declared.grammar.Event.{Event}
 use Rattle.nfsgw.specs.declared.grammar.Line.{Line}
 use Rattle.nfsgw.specs.declared.grammar.Line.TheVariants.{Go, End}
 use Rattle.nfsgw.specs.declared.run.Turn.{Turn}
 use Rattle.nfsgw.specs.declared.run.Turn.TheVariants as turn
 use Rattle.nfsgw.proofs.Traffic.{Fails-trans}
-use Rattle.nfsgw.proofs.Doing.{after_calls, comes_trans, world_body, world_grows}
+use Rattle.nfsgw.proofs.Doing.{after_calls, comes_trans, world_grows}
 
 -- traffic
 

@@ -1,5 +1,5 @@
 -- The steps of the program, event by event.
-use Rattle.std.proofs.Common.{◌≡◌, ℕ, ◌-◌, ◌^◌, ◌<◌, false, true, List, [], ◌∷◌, refl, subst, sym, Result, Ok, Err, IfOk, OnErr, String, Global, string_bytes}
+use Rattle.std.proofs.Common.{◌≡◌, ℕ, ◌-◌, ◌^◌, ◌<◌, false, true, List, [], ◌∷◌, refl, Result, Ok, Err, IfOk, OnErr, String, Global, string_bytes}
 use Rattle.std.specs.declared.alloc.AllocError.{AllocError}
 use Rattle.nfsgw.specs.Acts.{Act, Make, Begins, Says, Writes, Reads, Ends, Turns, Pumps, act_ends}
 use Rattle.nfsgw.specs.Requests.{IsRequest}

@@ -2,7 +2,7 @@ use Rattle.std.proofs.Common.{◌∙◌, sym, arith}
 use Rattle.append_store.specs.State.{bytes_of}
 use Rattle.nfsgw.specs.Outside.{body_id, body_at}
 use Rattle.nfsgw.specs.Answering.{history_left}
-use Rattle.nfsgw.proofs.Finishes.{runs_whole, runs_short, runs_cut, given_rose, status_read, status_write, status_store, status_usage}
+use Rattle.nfsgw.proofs.Finishes.{runs_whole, runs_short, runs_cut, status_read, status_write, status_store, status_usage}
 use Rattle.nfsgw.proofs.run.replay.Goals as goal
 
 pub returns-in-StoreFault-clause-run : goal.returns-in-StoreFault-clause-run

@@ -1,4 +1,4 @@
-use Rattle.std.proofs.Common.{refl, sym, ◌∙◌, ap, arith}
+use Rattle.std.proofs.Common.{refl, sym, ◌∙◌, ap}
 use Rattle.nfsgw.specs.Links.{Front}
 use Rattle.nfsgw.proofs.StepCases.{always_err}
 use Rattle.nfsgw.proofs.Doing.{cuts_still}
