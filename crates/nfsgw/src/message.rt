@@ -86,8 +86,8 @@ const DATA_FILE: FileId = FileId(4);
 
 const FSID: u64 = 1;
 
-/// What a message asks for. Fails only for want of memory, and only for a message that asks for
-/// something under its own number.
+/// What a message asks for. Fails only for want of memory, and only for a message that asks for something under its own
+/// number.
 pub fn read_message(alloc: Global, message: Bytes) -> Result<Asked, Refused>
     ensures asked { IfOk result (λ a. a ≡ asked_of message) }
     ensures few { IfOk result IsFew }
