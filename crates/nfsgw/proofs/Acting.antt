@@ -453,11 +453,11 @@ refuses tells act conn xid notes ticket old mid new s n a is kept = go act is
     go (Says c x reply) (same, number) = says tells c x reply (scene old s n) (scene new s n) text (rw (same, number) (by (saying reply)))
     go (Reads c call) (same, number) = reads tells c call (scene old s n) (scene new s n) text (rw (same, number) (by (reading call)))
     go (Writes c call) (same, number) = writes tells c call (scene old s n) (scene new s n) text (rw (same, number) (by (writing call)))
-    go Make no = absurd no
-    go Begins no = absurd no
-    go (Ends c) no = absurd no
-    go Turns no = absurd no
-    go Pumps no = absurd no
+    go Make none = absurd none
+    go Begins none = absurd none
+    go (Ends c) none = absurd none
+    go Turns none = absurd none
+    go Pumps none = absurd none
 
 -- the end of a connection
 pub ends_step : (tells : Type 0) (conn : ℕ) (old new : Kept) (s : ObjectState) (n : ℕ) → new ≡ record old { desk = cancelled conn old.desk } → IsStep tells (Ends conn) (scene old s n) (scene new s n) (closed_line conn) false

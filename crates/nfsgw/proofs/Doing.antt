@@ -1,13 +1,14 @@
 -- Acts that are done one after another.
 use Rattle.std.proofs.Common.{◌≡◌, ℕ, ◌-◌, ◌^◌, ◌<◌, inl, inr, Bool, true, false, List, [], ◌∷◌, ◌++◌, map, Option, Some, None, refl, sym, ◌∙◌, ap, subst, append_assoc, append-nil, arith}
-use Rattle.gw_model.specs.Ahead.{Ahead, Outcome, Done, Failed, Listed, NoMemory, Called, Good, Bad}
+use Rattle.gw_model.specs.Ahead.{Ahead, Outcome, Called, Good, Bad}
 use Rattle.gw_model.specs.Views.{Noted, next_event}
 use Rattle.file_cell.specs.State.{CellState}
 use Rattle.transcript.specs.Writing.{IsPrefix}
 use Rattle.nfsgw.specs.Acts.{Act, Begins}
 use Rattle.nfsgw.specs.Headline.{outcome_of}
 use Rattle.nfsgw.specs.World.{World, Turned, Told, body_in, body_of, next, told_of, told_then, onto}
-use Rattle.nfsgw.specs.Outside.{Scene, Way, IsOpen, IsWorld, IsAfter, IsLater, Passed, IsStep, IsCut, Comes, Does, Stops, Cuts, IsHalted, ahead_at}
+use Rattle.nfsgw.specs.Outside.{Scene, Way, IsOpen, IsWorld, IsAfter, Passed, IsStep, IsCut, Comes, Does, Stops, Cuts, IsHalted, ahead_at}
+use Rattle.nfsgw.proofs.Acting.{after_event, from_after}
 use Rattle.nfsgw.proofs.Traffic.{Fails-trans}
 use Rattle.nfsgw.proofs.Growing.{good_of, good_next, grows}
 
@@ -40,15 +41,7 @@ after_calls n (Good ∷ later) = tt
 after_calls n (Bad kept ∷ later) = tt
 
 pub after_begin : (n : Noted) (later : List Outcome) → n.event < 2 ^ 64 - 1 → IsAfter (next_event n) later → IsAfter n later
-after_begin n [] few h = tt
-after_begin n (Done ∷ later) few h = tt
-after_begin n (Failed kept ∷ later) few h = tt
-after_begin n (Listed objects ∷ later) few h = tt
-after_begin n (NoMemory event request ∷ later) few h = go h
-  where
-    go : IsLater (next_event n).event 0 event request → IsLater n.event n.request event request
-    go (inl p) = inl (omega (arith, few, p))
-    go (inr p) = inl (let q = p.0 in omega (arith, few, q))
+after_begin n later few h = after_event n later few (from_after (next_event n) later h)
 
 pub passed_still : (tells : Type 0) (s : Scene) → Passed tells s s [] []
 passed_still tells s = record { after = λ later h. h; puts = λ told. sym (append-nil s.body); fails = omega arith; later = omega arith }

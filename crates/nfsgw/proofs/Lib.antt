@@ -10,6 +10,7 @@ pub mod Ready
 pub mod Growing
 pub mod Acting
 pub mod Opens
+pub mod Making
 pub mod Links
 pub mod Doing
 pub mod Hearing

@@ -51,23 +51,22 @@ module _ (tells : Type 0) (r : Result (String Global) AllocError) (result : Step
   unfolding arrival
   received_stepped conn piece s u = begun_stepped (Bytes conn piece) (heard_at (link_at conn before.links) conn piece before).acts refl s u
 
+module _ (tells : Type 0) (r : Result (String Global) AllocError) (result : Stepped) (before after : Front) (old new : Scene)
+    (ok : IfOk r (λ t. result ≡ stepped.Text t)) (err : OnErr r (result ≡ stepped.NoMemory)) where
   -- an event of one act, whose text was made or not
-  acted_stepped : (event : Event) (act : Act) → (arrival before event).acts ≡ Begins ∷ act ∷ [] → after ≡ (arrival before event).front
-      → IfOk r (λ t. IsStep tells act begun new (string_bytes t) false) → OnErr r (IsCut tells act begun new) → IsStepped tells result event before after old new
-  acted_stepped event act is same s u = begun_stepped event (act ∷ []) is (done r s) (cut r u)
+  acted_stepped : (event : Event) (act : Act) → (arrival before event).acts ≡ act ∷ [] → after ≡ (arrival before event).front
+      → IfOk r (λ t. IsStep tells act old new (string_bytes t) false) → OnErr r (IsCut tells act old new) → IsStepped tells result event before after old new
+  acted_stepped event act is same s u = go r ok err s u
     where
-      done : (r : Result (String Global) AllocError) → IfOk r (λ t. IsStep tells act begun new (string_bytes t) false) → IfOk r (λ t. (after ≡ (arrival before event).front) × Does tells (act ∷ []) begun new (string_bytes t))
-      done (Ok t) s = (same, does_one tells act begun new (string_bytes t) s)
-      done (Err x) s = tt
+      go : (r : Result (String Global) AllocError) → IfOk r (λ t. result ≡ stepped.Text t) → OnErr r (result ≡ stepped.NoMemory)
+          → IfOk r (λ t. IsStep tells act old new (string_bytes t) false) → OnErr r (IsCut tells act old new) → IsStepped tells result event before after old new
+      go (Ok t) e f s u = rw (e, is) (same, does_one tells act old new (string_bytes t) s)
+      go (Err x) e f s u = rw (f, is) (cuts_one tells act [] old new u)
 
-      cut : (r : Result (String Global) AllocError) → OnErr r (IsCut tells act begun new) → OnErr r (Cuts tells (act ∷ []) begun new)
-      cut (Ok t) u = tt
-      cut (Err x) u = cuts_one tells act [] begun new u
-
-  pub turn_stepped : after ≡ before → IfOk r (λ t. IsStep tells Turns begun new (string_bytes t) false) → OnErr r (IsCut tells Turns begun new) → IsStepped tells result Turn before after old new
+  pub turn_stepped : after ≡ before → IfOk r (λ t. IsStep tells Turns old new (string_bytes t) false) → OnErr r (IsCut tells Turns old new) → IsStepped tells result Turn before after old new
   unfolding arrival
   turn_stepped same s u = acted_stepped Turn Turns refl same s u
 
-  pub pump_stepped : after ≡ before → IfOk r (λ t. IsStep tells Pumps begun new (string_bytes t) false) → OnErr r (IsCut tells Pumps begun new) → IsStepped tells result Pump before after old new
+  pub pump_stepped : after ≡ before → IfOk r (λ t. IsStep tells Pumps old new (string_bytes t) false) → OnErr r (IsCut tells Pumps old new) → IsStepped tells result Pump before after old new
   unfolding arrival
   pump_stepped same s u = acted_stepped Pump Pumps refl same s u

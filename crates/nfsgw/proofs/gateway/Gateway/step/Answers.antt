@@ -22,16 +22,12 @@ pub returns-in-Turn-clause-step : goal.returns-in-Turn-clause-step
 returns-in-Turn-clause-step g c =
     let s = g.C.Cluster.at c.args.cluster.now body_id in
     let n = g.C.Cluster.count c.args.cluster.now in
-    let begun = ap (λ k. scene k s n) c.begin_event-in-Turn.ensures in
-    let few = rw (← c.self-in-Turn.view_is) at c.requires.few in
     rw (c.in-Turn.is, ← c.self-in-Turn.view_is)
-    (turn_stepped g.C.File.AppendFile.tells c.turn.result c.told-in-Turn.result _ _ (scene c.self-in-Turn.inside.world s n) (scene c.begin_event-in-Turn.new.self s n) (scene c.turn.new.self s n) few begun c.told-in-Turn.ensures.ok c.told-in-Turn.ensures.err refl (c.turn.ensures.ok s n) (c.turn.ensures.err s n))
+    (turn_stepped g.C.File.AppendFile.tells c.turn.result c.told-in-Turn.result _ _ (scene c.self-in-Turn.inside.world s n) (scene c.turn.new.self s n) c.told-in-Turn.ensures.ok c.told-in-Turn.ensures.err refl (c.turn.ensures.ok s n) (c.turn.ensures.err s n))
 
 pub returns-in-Pump-clause-step : goal.returns-in-Pump-clause-step
 returns-in-Pump-clause-step g c =
     let s = g.C.Cluster.at c.args.cluster.now body_id in
     let n = g.C.Cluster.count c.args.cluster.now in
-    let begun = ap (λ k. scene k s n) c.begin_event-in-Pump.ensures in
-    let few = rw (← c.self-in-Pump.view_is) at c.requires.few in
     rw (c.in-Pump.is, ← c.self-in-Pump.view_is)
-    (pump_stepped g.C.File.AppendFile.tells c.pump.result c.told-in-Pump.result _ _ (scene c.self-in-Pump.inside.world s n) (scene c.begin_event-in-Pump.new.self s n) (scene c.pump.new.self s n) few begun c.told-in-Pump.ensures.ok c.told-in-Pump.ensures.err refl (c.pump.ensures.ok s n) (c.pump.ensures.err s n))
+    (pump_stepped g.C.File.AppendFile.tells c.pump.result c.told-in-Pump.result _ _ (scene c.self-in-Pump.inside.world s n) (scene c.pump.new.self s n) c.told-in-Pump.ensures.ok c.told-in-Pump.ensures.err refl (c.pump.ensures.ok s n) (c.pump.ensures.err s n))

@@ -22,10 +22,10 @@ pub returns-clause-ok : goal.returns-clause-ok
 returns-clause-ok g c = λ s n.
     let mid : Kept = record { opened = c.self.inside.cell; desk = c.self.inside.desk; noted = c.self.inside.trace } in
     let asked = rw (← c.self.view_is) at c.in_ok-ticket.ensures.ok in
-    step_ok string_bytes c.send_text.result _ _ _ _ _ (said_step g.C.File.AppendFile.tells c.args.conn c.args.xid 9 c.in_ok-ticket.ticket c.args.self.now mid s n c.args.reply.now asked _ c.send_text.ensures.kept) (rw c.in-Ok.ensures.items at c.send_text.ensures.line)
+    step_ok string_bytes c.send_text.result _ _ _ _ _ (said_step g.C.File.AppendFile.tells c.args.conn c.args.xid 9 c.in_ok-ticket.ticket c.args.self.now c.ask.new.self s n c.args.reply.now c.in_ok-ticket.ensures.ok _ c.send_text.ensures.kept) (rw c.in-Ok.ensures.items at c.send_text.ensures.line)
 
 pub returns-clause-err : goal.returns-clause-err
 returns-clause-err g c = λ s n.
     let mid : Kept = record { opened = c.self.inside.cell; desk = c.self.inside.desk; noted = c.self.inside.trace } in
     let asked = rw (← c.self.view_is) at c.in_ok-ticket.ensures.ok in
-    step_err c.send_text.result _ _ _ _ _ (said_step g.C.File.AppendFile.tells c.args.conn c.args.xid 9 c.in_ok-ticket.ticket c.args.self.now mid s n c.args.reply.now asked _ c.send_text.ensures.kept)
+    step_err c.send_text.result _ _ _ _ _ (said_step g.C.File.AppendFile.tells c.args.conn c.args.xid 9 c.in_ok-ticket.ticket c.args.self.now c.ask.new.self s n c.args.reply.now c.in_ok-ticket.ensures.ok _ c.send_text.ensures.kept)
