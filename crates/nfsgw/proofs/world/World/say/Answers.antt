@@ -1,5 +1,4 @@
 use Rattle.std.proofs.Common.{◌≡◌, ◌∙◌, refl, ap, string_bytes}
-use Rattle.nfsgw.specs.Outside.{Kept}
 use Rattle.nfsgw.proofs.Acting.{always_err, breaks_room, step_ok, step_err, refuses, said_step}
 use Rattle.nfsgw.proofs.world.World.say.Goals as goal
 
@@ -8,24 +7,16 @@ returns-in_err-ticket-clause-err g c = λ s n. always_err c.from_residual.result
 
 pub returns-in_default-clause-ok : goal.returns-in_default-clause-ok
 returns-in_default-clause-ok g c = λ s n.
-    let mid : Kept = record { opened = c.self.inside.cell; desk = c.self.inside.desk; noted = c.self.inside.trace } in
-    let asked = rw (← c.self.view_is) at c.in_ok-ticket.ensures.ok in
-    step_ok string_bytes c.refuse.result _ _ _ _ _ (refuses g.C.File.AppendFile.tells _ c.args.conn c.args.xid 9 c.in_ok-ticket.ticket c.args.self.now mid _ s n asked (refl, refl) c.refuse.ensures.kept) c.refuse.ensures.text
+    step_ok string_bytes c.refuse.result _ _ _ _ _ (refuses g.C.File.AppendFile.tells _ c.args.conn c.args.xid 9 c.in_ok-ticket.ticket c.args.self.now c.ask.new.self _ s n c.in_ok-ticket.ensures.ok (refl, refl) c.refuse.ensures.kept) c.refuse.ensures.text
 
 pub returns-in_default-clause-err : goal.returns-in_default-clause-err
 returns-in_default-clause-err g c = λ s n.
-    let mid : Kept = record { opened = c.self.inside.cell; desk = c.self.inside.desk; noted = c.self.inside.trace } in
-    let asked = rw (← c.self.view_is) at c.in_ok-ticket.ensures.ok in
-    step_err c.refuse.result _ _ _ _ _ (refuses g.C.File.AppendFile.tells _ c.args.conn c.args.xid 9 c.in_ok-ticket.ticket c.args.self.now mid _ s n asked (refl, refl) c.refuse.ensures.kept)
+    step_err c.refuse.result _ _ _ _ _ (refuses g.C.File.AppendFile.tells _ c.args.conn c.args.xid 9 c.in_ok-ticket.ticket c.args.self.now c.ask.new.self _ s n c.in_ok-ticket.ensures.ok (refl, refl) c.refuse.ensures.kept)
 
 pub returns-clause-ok : goal.returns-clause-ok
 returns-clause-ok g c = λ s n.
-    let mid : Kept = record { opened = c.self.inside.cell; desk = c.self.inside.desk; noted = c.self.inside.trace } in
-    let asked = rw (← c.self.view_is) at c.in_ok-ticket.ensures.ok in
     step_ok string_bytes c.send_text.result _ _ _ _ _ (said_step g.C.File.AppendFile.tells c.args.conn c.args.xid 9 c.in_ok-ticket.ticket c.args.self.now c.ask.new.self s n c.args.reply.now c.in_ok-ticket.ensures.ok _ c.send_text.ensures.kept) (rw c.in-Ok.ensures.items at c.send_text.ensures.line)
 
 pub returns-clause-err : goal.returns-clause-err
 returns-clause-err g c = λ s n.
-    let mid : Kept = record { opened = c.self.inside.cell; desk = c.self.inside.desk; noted = c.self.inside.trace } in
-    let asked = rw (← c.self.view_is) at c.in_ok-ticket.ensures.ok in
     step_err c.send_text.result _ _ _ _ _ (said_step g.C.File.AppendFile.tells c.args.conn c.args.xid 9 c.in_ok-ticket.ticket c.args.self.now c.ask.new.self s n c.args.reply.now c.in_ok-ticket.ensures.ok _ c.send_text.ensures.kept)
