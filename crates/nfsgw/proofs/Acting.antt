@@ -64,7 +64,7 @@ apart a b h = grind (arith, nat_tests)
 itself : (a : ℕ) → (a == a) ≡ true
 itself a = grind (arith, nat_tests)
 
-false_right : (b : Bool) → (b && false) ≡ false
+pub false_right : (b : Bool) → (b && false) ≡ false
 false_right true = refl
 false_right false = refl
 

@@ -11,6 +11,7 @@ pub mod Growing
 pub mod Acting
 pub mod Opens
 pub mod Making
+pub mod Jobs
 pub mod Links
 pub mod Doing
 pub mod Hearing

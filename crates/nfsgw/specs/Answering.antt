@@ -1,18 +1,23 @@
 -- What a request takes as it begins, what the desk sends, and what is left of the file at the end.
-use Rattle.std.specs.Prelude.{◌≡◌, ℕ, ◌-◌, ◌^◌, ◌<◌, ◌≤◌, ◌⊎◌, Bool, true, false, List, [], ◌∷◌, Option, None, Some}
+use Rattle.std.specs.Prelude.{◌≡◌, ℕ, ◌-◌, ◌^◌, ◌<◌, ◌≤◌, ◌⊎◌, Bool, true, false, List, [], ◌∷◌, ◌++◌, Option, None, Some}
 use Rattle.gw_model.specs.Ahead.{Outcome, NoMemory}
-use Rattle.gw_model.specs.File.{Answer, SystemErr}
+use Rattle.gw_model.specs.File.{Answer, File, Step, SystemErr}
+use Rattle.gw_model.specs.Writer.{turn}
 use Rattle.gw_model.specs.Ending.{Ended as AtEnd}
 use Rattle.gw_model.specs.Views.{Noted, next_request, with_note}
 use Rattle.tickets.specs.Desk.{TicketId, DeskState, issued, next_ticket}
-use Rattle.admit.specs.Answers.{IsPlain}
+use Rattle.tickets.specs.declared.answer.Answer.{Answer as Sendable}
+use Rattle.admit.specs.Answers.{IsPlain, answer_of}
+use Rattle.writeback.specs.Steps.{is_want}
+use Rattle.file_cell.specs.Files.{StandsFor}
+use Rattle.nfsgw.specs.Headline.{Fails}
 use Rattle.admit.specs.declared.request.Verdict.{Verdict}
 use Rattle.admit.specs.declared.request.Verdict.TheVariants as verdict
 use Rattle.file_cell.specs.State.{CellState}
 use Rattle.file_cell.specs.declared.closed.Ended.{Ended}
 use Rattle.file_cell.specs.History.{history_of_ended, history_text}
 use Rattle.nfsgw.specs.World.{defaults, send}
-use Rattle.nfsgw.specs.Outside.{Kept, Scene, Doing, StepsFrom}
+use Rattle.nfsgw.specs.Outside.{Kept, Scene, Doing, StepsFrom, IsAfter, ahead_at}
 
 -- the one file, with no answer left
 abbrev pub IsReady : Option CellState → Type 0
@@ -78,3 +83,42 @@ pub record Tries (tells : Type 0) (go : Doing) (old new : Scene) (made : List �
   pub text : List ℕ
   pub step : StepsFrom tells (IsFrom old.kept.noted) go old new text false
   pub is : made text
+
+-- a turn
+
+-- an answer says that memory was wanting
+abbrev pub wants : Option Sendable → Bool
+wants None = false
+wants (Some a) = is_want (answer_of a ∷ [])
+
+-- the first answer
+abbrev pub firsts : Option Sendable → List Answer
+firsts None = []
+firsts (Some a) = answer_of a ∷ []
+
+abbrev pub ArePlain : Option Sendable → Type 0
+ArePlain None = Unit {0}
+ArePlain (Some a) = IsPlain a.body
+
+abbrev pub SameSettings : CellState → CellState → Type 0
+SameSettings c d = (d.limits ≡ c.limits) × (d.id ≡ c.id) × (d.file.object ≡ c.file.object)
+
+-- The file after stands for the file after a turn, whose answers are the one that was handed out and those that are left.
+pub record Turned (c : CellState) (answer : Option Sendable) (noted : Noted) (later : List Outcome) (step : Step) : Type 0 where
+  pub stands : StandsFor c step.file
+  pub answers : step.answers ≡ firsts answer ++ c.left
+  pub ahead : step.ahead ≡ ahead_at noted later
+
+-- A turn of an open file, with what was noted.
+pub record IsJob (tells : Type 0) (old new : CellState) (answer : Option Sendable) (noted noted' : Noted) : Type 0 where
+  pub outcomes : List Outcome
+  pub put : List ℕ
+  pub plain : ArePlain answer
+  pub event : noted'.event ≡ noted.event
+  pub request : noted'.request ≡ noted.request
+  pub notes : noted'.outcomes ≡ noted.outcomes ++ outcomes
+  pub from : (later : List Outcome) → IsAfter noted' later → IsFrom noted (outcomes ++ later)
+  pub content : tells → new.file.content ≡ old.file.content ++ put
+  pub fails : Fails outcomes old.file.faults new.file.faults
+  pub later : old.file.faults ≤ new.file.faults
+  pub next : tells → (f : File) → StandsFor old f → (later : List Outcome) → IsAfter noted' later → Turned new answer noted' later (turn f (ahead_at noted (outcomes ++ later)))

@@ -13,19 +13,19 @@ ghost use Rattle.admit.specs.Calls.{answers_of, is_refusal, write_request};
 ghost use Rattle.nfsgw.specs.World.{World as WorldState, end_text, reading, send, text_to, tried, write_in};
 ghost use Rattle.nfsgw.specs.Outside.{body_id, body_at, scene, GivesBack, Safe, Home, IsText, IsStep, IsCut, IsActed, IsOpen};
 ghost use Rattle.nfsgw.specs.Progress.{initial};
-ghost use Rattle.nfsgw.specs.Answering.{ArePlainIn, IsAsked, SameButRoom, SameFile, SameNumbers, Tries, history_left, noted_by, refusing, sent};
+ghost use Rattle.nfsgw.specs.Answering.{ArePlain, ArePlainIn, IsAsked, IsJob, firsts, SameSettings, wants, SameButRoom, SameFile, SameNumbers, Tries, history_left, noted_by, refusing, sent};
 
 use crate::answers::{conclude, not_written, read_answer, send_left, send_one};
 use crate::call::{ReadCall, WriteCall};
 use crate::opening::{BODY, Failure, open_file, read_body};
 use crate::reply::{closed_text, said_text};
 use admit::{ReadReq, Verdict, WriteReq};
-use append_store::{Cluster, CreateFault};
+use append_store::{AppendFile, Cluster, CreateFault};
 use bytes::Bytes;
 use file_cell::{Ended, FileCell};
 use gw_model::{Outcome, Stable, Trace};
 use nfs_types::status::{NFS3_OK, NFS3ERR_IO};
-use range_map::SortedVecMap;
+use range_map::{PendingMap, SortedVecMap};
 use std::alloc::{AllocError, Global};
 use std::marker::Model;
 use tickets::{Answer, Body, ReplyDesk, Sent, Ticket};
@@ -73,6 +73,51 @@ pub fn told(text: Result<String, AllocError>) -> Stepped
     match text {
         Ok(text) => Stepped::Text(text),
         Err(_) => Stepped::NoMemory,
+    }
+}
+
+// Whether a READ was answered that it found no memory.
+fn is_want(answer: &Option<Answer>) -> bool
+    ensures { result ≡ wants answer.now }
+{
+    matches!(
+        answer,
+        Some(Answer {
+            body: Body::SystemErr,
+            ..
+        })
+    )
+}
+
+// Does the first job of an open file, and gives the first answer that this left. Want of memory is noted.
+fn do_job<F: AppendFile, M: PendingMap>(cell: &mut FileCell<F, M>, trace: &mut Trace) -> Option<Answer>
+    requires none_left { cell.old.left ≡ [] }
+    requires noted { 0 < trace.old.room }
+    ensures job { IsJob F.tells cell.old cell.new result trace.old trace.new }
+    ensures same { SameSettings cell.old cell.new }
+{
+    cell.write_step(trace);
+    let answer = cell.next_answer();
+    if is_want(&answer) {
+        trace.refuse();
+    }
+    answer
+}
+
+// Sends the answer that a turn left, if there is one, and gives what it writes.
+fn send_first(
+    alloc: Global,
+    desk: &mut ReplyDesk,
+    answer: Option<Answer>,
+) -> Result<String, AllocError>
+    requires plain { ArePlain answer }
+    ensures desk { desk.new ≡ (send desk.old (firsts answer)).desk }
+    ensures last { desk.new.last ≡ desk.old.last }
+    ensures text { IfOk result (λ text. string_bytes text ≡ (send desk.old (firsts answer)).text) }
+{
+    match answer {
+        Some(answer) => send_one(alloc, desk, answer),
+        None => Ok(String::new(alloc)),
     }
 }
 
@@ -364,20 +409,8 @@ impl<C: Cluster> World<C> {
         let Some(cell) = &mut self.cell else {
             return Ok(String::new(self.alloc));
         };
-        cell.write_step(&mut self.trace);
-        let answer = cell.next_answer();
-        // A READ that found no memory.
-        if let Some(Answer {
-            body: Body::SystemErr,
-            ..
-        }) = &answer
-        {
-            self.trace.refuse();
-        }
-        let text = match answer {
-            Some(answer) => send_one(self.alloc, &mut self.desk, answer),
-            None => Ok(String::new(self.alloc)),
-        };
+        let answer = do_job(cell, &mut self.trace);
+        let text = send_first(self.alloc, &mut self.desk, answer);
         send_left(self.alloc, &mut self.desk, cell, text)
     }
 
