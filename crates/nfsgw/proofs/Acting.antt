@@ -198,10 +198,10 @@ module _ (tells : Type 0) (go : Doing) (mid new : Kept) (s s' : ObjectState) (n 
       sent_step tells go (scene mid s n) (scene (refusing ticket mid) s' n') (record { ticket = ticket; body = SystemErr } ∷ []) (NoMemory mid.noted.event mid.noted.request ∷ [])
       refl refl refl (λ later fine. from_here mid.noted later) same (omega (arith, up)) up refl
       (λ told w h later fine. (
-          w,
-          subst (λ b. IsOpen mid.opened b w) (sym (same told)) h.opened,
-          refl,
-          refusal_is go mid.noted w later ∙ ap (λ t. sends w (record { ticket = t; body = SystemErr } ∷ []) (ahead_at mid.noted later)) (ap (λ (d : DeskState). d.last) h.desk ∙ sym last),
+        w,
+        subst (λ b. IsOpen mid.opened b w) (sym (same told)) h.opened,
+        refl,
+        refusal_is go mid.noted w later ∙ ap (λ t. sends w (record { ticket = t; body = SystemErr } ∷ []) (ahead_at mid.noted later)) (ap (λ (d : DeskState). d.last) h.desk ∙ sym last),
       )))
 
 -- A request of the open file.
@@ -256,11 +256,11 @@ module _ (tells : Type 0) (go : Doing) (act : File → Ahead → Step) (mid : Ke
       sent_step tells go (scene mid s n) (scene (sent (answers_of v) (with_cell d mid)) s n) (answers_of v) []
       refl refl (sym (append-nil mid.noted.outcomes)) (λ later fine. from_after mid.noted later fine) (λ told. same_body) (omega (arith, count)) (omega (arith, count)) refl
       (λ told w h later fine.
-          let t = ahead_at mid.noted later in
-          let o = subst (λ x. IsOpen x (body_at s x) w) is_open h.opened in
-          let m = means o.0 t o.2 (not_refused mid.noted later fine ∙ sym e) in
-          let u = of_follows v w t (act o.0 t) d m e in
-          (u.0, u.1, u.2, goes_on go mid.noted w later fine ∙ goes w o.0 t o.1 (ap (λ x. x.last) h.desk) ∙ u.3)))
+      let t = ahead_at mid.noted later in
+      let o = subst (λ x. IsOpen x (body_at s x) w) is_open h.opened in
+      let m = means o.0 t o.2 (not_refused mid.noted later fine ∙ sym e) in
+      let u = of_follows v w t (act o.0 t) d m e in
+      (u.0, u.1, u.2, goes_on go mid.noted w later fine ∙ goes w o.0 t o.1 (ap (λ x. x.last) h.desk) ∙ u.3)))
 
   -- a verdict on a request whose ticket is the last
   pub open_step : (v : Verdict) (asker : TicketId) → asker.number ≡ mid.desk.last → IsOf v asker c d → Means act v c d

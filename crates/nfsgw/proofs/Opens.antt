@@ -80,10 +80,10 @@ module _ (tells : Type 0) (go : Doing) (by : After) (refusal : Body) (mid : Kept
       sent_step tells go (scene mid s n) (scene (sent (reply mid.desk.last refusal) (noting (with_calls (Bad 0 ∷ []) mid.noted) mid)) s' n') (reply mid.desk.last refusal) (Failed 0 ∷ [])
       refl refl refl (λ later fine. tt) (same_of failure.Store e) (omega (arith, rose, a, b)) (omega (arith, up, a, b)) refl
       (λ told w h later fine. (
-          w,
-          stays failure.Store e told w h,
-          refl,
-          goes w (ahead_at mid.noted (Failed 0 ∷ later)) (here w h).0 (ap (λ (d : DeskState). d.last) h.desk) ∙ bad w (ahead_at mid.noted later) (refused (ahead_at mid.noted later)) (ap (λ (d : DeskState). d.last) h.desk),
+        w,
+        stays failure.Store e told w h,
+        refl,
+        goes w (ahead_at mid.noted (Failed 0 ∷ later)) (here w h).0 (ap (λ (d : DeskState). d.last) h.desk) ∙ bad w (ahead_at mid.noted later) (refused (ahead_at mid.noted later)) (ap (λ (d : DeskState). d.last) h.desk),
       )))
 
   -- memory was refused, before the call or after it
@@ -97,10 +97,10 @@ module _ (tells : Type 0) (go : Doing) (by : After) (refusal : Body) (mid : Kept
       refl refl (ap (λ os. os ++ NoMemory mid.noted.event mid.noted.request ∷ []) (append-nil mid.noted.outcomes)) (λ later fine. from_here mid.noted later)
       (λ told. ap (body_at s') closed ∙ same told ∙ sym (ap (body_at s) closed)) (omega (arith, up, a, b)) (omega (arith, up, a, b)) refl
       (λ told w h later fine. (
-          w,
-          subst (λ b. IsOpen mid.opened b w) (sym (ap (body_at s') closed ∙ same told ∙ sym (ap (body_at s) closed))) h.opened,
-          refl,
-          refusal_is go mid.noted w later ∙ ap (λ t. sends w (reply t SystemErr) (ahead_at mid.noted later)) (ap (λ (d : DeskState). d.last) h.desk),
+        w,
+        subst (λ b. IsOpen mid.opened b w) (sym (ap (body_at s') closed ∙ same told ∙ sym (ap (body_at s) closed))) h.opened,
+        refl,
+        refusal_is go mid.noted w later ∙ ap (λ t. sends w (reply t SystemErr) (ahead_at mid.noted later)) (ap (λ (d : DeskState). d.last) h.desk),
       )))
   wanting calls (inr one) same up =
       let a = count in
@@ -110,13 +110,13 @@ module _ (tells : Type 0) (go : Doing) (by : After) (refusal : Body) (mid : Kept
       refl refl (append_assoc mid.noted.outcomes (Done ∷ []) (NoMemory mid.noted.event mid.noted.request ∷ [])) (λ later fine. tt)
       (λ told. ap (body_at s') closed ∙ same told ∙ sym (ap (body_at s) closed)) (omega (arith, up, a, b)) (omega (arith, up, a, b)) refl
       (λ told w h later fine.
-          let last = ap (λ (d : DeskState). d.last) h.desk in
-          let t = ahead_at mid.noted (NoMemory mid.noted.event mid.noted.request ∷ later) in (
-            w,
-            subst (λ b. IsOpen mid.opened b w) (sym (ap (body_at s') closed ∙ same told ∙ sym (ap (body_at s) closed))) h.opened,
-            refl,
-            goes w (ahead_at mid.noted (Done ∷ NoMemory mid.noted.event mid.noted.request ∷ later)) (here w h).0 last ∙ ap (λ b. by Good b w t) (refused_here mid.noted later) ∙ want w t last,
-          )))
+      let last = ap (λ (d : DeskState). d.last) h.desk in
+      let t = ahead_at mid.noted (NoMemory mid.noted.event mid.noted.request ∷ later) in (
+        w,
+        subst (λ b. IsOpen mid.opened b w) (sym (ap (body_at s') closed ∙ same told ∙ sym (ap (body_at s) closed))) h.opened,
+        refl,
+        goes w (ahead_at mid.noted (Done ∷ NoMemory mid.noted.event mid.noted.request ∷ later)) (here w h).0 last ∙ ap (λ b. by Good b w t) (refused_here mid.noted later) ∙ want w t last,
+      )))
 
   pub wanting_step : (new : Kept) → (e : Fails tells failure.Memory s s' n n' mid.noted noted') → new ≡ refusing mid.desk.last (noting noted' mid)
       → StepsFrom tells (IsFrom mid.noted) (tried go) (scene mid s n) (scene new s' n') (send mid.desk (reply mid.desk.last SystemErr)).text false
@@ -134,13 +134,13 @@ module _ (tells : Type 0) (go : Doing) (by : After) (refusal : Body) (mid : Kept
       refl refl refl (λ later fine. tt)
       (λ told. ap (body_at s') closed ∙ same told ∙ sym (ap (body_at s) closed)) (omega (arith, up, a, b)) (omega (arith, up, a, b)) refl
       (λ told w h later fine.
-          let last = ap (λ (d : DeskState). d.last) h.desk in
-          let t = ahead_at mid.noted later in (
-            w,
-            subst (λ b. IsOpen mid.opened b w) (sym (ap (body_at s') closed ∙ same told ∙ sym (ap (body_at s) closed))) h.opened,
-            refl,
-            goes w (ahead_at mid.noted (Done ∷ later)) (here w h).0 last ∙ ap (λ b. by Good b w t) (not_refused mid.noted later fine) ∙ done told w t (here w h).1 last,
-          )))
+      let last = ap (λ (d : DeskState). d.last) h.desk in
+      let t = ahead_at mid.noted later in (
+        w,
+        subst (λ b. IsOpen mid.opened b w) (sym (ap (body_at s') closed ∙ same told ∙ sym (ap (body_at s) closed))) h.opened,
+        refl,
+        goes w (ahead_at mid.noted (Done ∷ later)) (here w h).0 last ∙ ap (λ b. by Good b w t) (not_refused mid.noted later fine) ∙ done told w t (here w h).1 last,
+      )))
 
 -- WRITE
 
@@ -182,21 +182,21 @@ module _ (tells : Type 0) (mid : Kept) (s s' : ObjectState) (n n' : ℕ) (noted'
       sent_step tells (going q) (scene mid s n) (scene (sent (answers_of v) (with_cell d (noting (with_calls (Good ∷ []) mid.noted) mid))) s' n') (answers_of v) (Done ∷ [])
       refl refl refl (λ later fine. tt) (λ told. body told ∙ sym (ap (body_at s) closed)) (omega (arith, up, none, zero, a)) (omega (arith, up, none, zero, a)) refl
       (λ told x h later fine.
-          let at = subst (λ k. IsOpen k (body_at s k) x) closed h.opened in
-          let u = ahead_at mid.noted later in
-          let whole : c.file.content ≡ x.body = o.content told ∙ sym at.1 in
-          let long : length c.file.content ≡ length x.body = ap length whole in
-          let stands : StandsFor c (opened x.body None 0)
-          = open_law c x.body None 0 (o.base ∙ long) (o.side ∙ ap (λ k. side_opened k None 0) long) (o.writer ∙ ap fresh long) whole in
-          let m = w (opened x.body None 0) u stands (not_refused mid.noted later fine ∙ sym e) in
-          let m' = subst (λ l. Follows v u (write l (opened x.body None 0) (admit.write_request r) u) d) o.limits m in
-          let f = of_follows v x u (write defaults (opened x.body None 0) (admit.write_request r) u) d m' e in (
-            f.0,
-            f.1,
-            f.2,
-            goes x (ahead_at mid.noted (Done ∷ later)) at.0 (ap (λ (k : DeskState). k.last) h.desk) ∙ ap (λ b. opened_for Good b x q u) (not_refused mid.noted later fine)
+      let at = subst (λ k. IsOpen k (body_at s k) x) closed h.opened in
+      let u = ahead_at mid.noted later in
+      let whole : c.file.content ≡ x.body = o.content told ∙ sym at.1 in
+      let long : length c.file.content ≡ length x.body = ap length whole in
+      let stands : StandsFor c (opened x.body None 0)
+      = open_law c x.body None 0 (o.base ∙ long) (o.side ∙ ap (λ k. side_opened k None 0) long) (o.writer ∙ ap fresh long) whole in
+      let m = w (opened x.body None 0) u stands (not_refused mid.noted later fine ∙ sym e) in
+      let m' = subst (λ l. Follows v u (write l (opened x.body None 0) (admit.write_request r) u) d) o.limits m in
+      let f = of_follows v x u (write defaults (opened x.body None 0) (admit.write_request r) u) d m' e in (
+        f.0,
+        f.1,
+        f.2,
+        goes x (ahead_at mid.noted (Done ∷ later)) at.0 (ap (λ (k : DeskState). k.last) h.desk) ∙ ap (λ b. opened_for Good b x q u) (not_refused mid.noted later fine)
             ∙ ap (λ y. of_step x (write defaults (opened x.body None 0) y u)) is ∙ f.3,
-          )))
+      )))
 
 -- READ
 
@@ -220,9 +220,9 @@ module _ (tells : Type 0) (mid : Kept) (s s' : ObjectState) (n n' : ℕ) (noted'
       → StepsFrom tells (IsFrom mid.noted) (tried (reading call)) (scene mid s n) (scene (sent (reply mid.desk.last (Gave p.bytes.items p.eof)) (noting noted' mid)) s' n') (send mid.desk (reply mid.desk.last (Gave p.bytes.items p.eof))).text false
   part_step p e same = read_step tells (reading call) (stored (read_request call mid.desk.last)) (NotGiven io) mid s s' n n' noted' closed seeks (λ w t b last. refl) (λ w t last. refl) (Gave p.bytes.items p.eof)
       (λ told w t body last.
-          let has : part_of call.offset (min call.count 1048576) w.body ≡ Gave p.bytes.items p.eof
-          = ap (part_of call.offset (min call.count 1048576)) body ∙ ap (λ xs. Gave xs (nat_le (length (bytes_of s)) (call.offset + min call.count 1048576))) (sym (e.bytes_are told)) ∙ ap (Gave p.bytes.items) (sym (e.eof_is told)) in
-          ap (λ b. answer w mid.desk.last b t) has)
+      let has : part_of call.offset (min call.count 1048576) w.body ≡ Gave p.bytes.items p.eof
+      = ap (part_of call.offset (min call.count 1048576)) body ∙ ap (λ xs. Gave xs (nat_le (length (bytes_of s)) (call.offset + min call.count 1048576))) (sym (e.bytes_are told)) ∙ ap (Gave p.bytes.items) (sym (e.eof_is told)) in
+      ap (λ b. answer w mid.desk.last b t) has)
       e.noted_is same e.later
 
 -- the same, by the answer that the program sent

@@ -90,7 +90,10 @@ fn is_want(answer: &Option<Answer>) -> bool
 }
 
 // Does the first job of an open file, and gives the first answer that this left. Want of memory is noted.
-fn do_job<F: AppendFile, M: PendingMap>(cell: &mut FileCell<F, M>, trace: &mut Trace) -> Option<Answer>
+fn do_job<F: AppendFile, M: PendingMap>(
+    cell: &mut FileCell<F, M>,
+    trace: &mut Trace,
+) -> Option<Answer>
     requires none_left { cell.old.left ≡ [] }
     requires noted { 0 < trace.old.room }
     ensures job { IsJob F.tells cell.old cell.new result trace.old trace.new }
@@ -273,11 +276,7 @@ impl<C: Cluster> World<C> {
     }
 
     // A WRITE of the file that isn't open. It is opened, and closed again where memory is refused for the request.
-    fn open_and_write(
-        &mut self,
-        request: WriteReq,
-        cluster: &mut C,
-    ) -> Result<String, AllocError>
+    fn open_and_write(&mut self, request: WriteReq, cluster: &mut C) -> Result<String, AllocError>
         requires room { 2 ≤ self.old.noted.room }
         requires last { request.ticket.number ≡ self.old.desk.last }
         requires closed { self.old.opened ≡ None }
@@ -356,7 +355,13 @@ impl<C: Cluster> World<C> {
         ensures others { C.File.tells → (q : ObjectId) → q ≢ body_id → C.at cluster.new q ≡ C.at cluster.old q }
         ensures numbers { SameNumbers self.old self.new }
     {
-        match read_body(self.alloc, cluster, &mut self.trace, call.offset, call.count) {
+        match read_body(
+            self.alloc,
+            cluster,
+            &mut self.trace,
+            call.offset,
+            call.count,
+        ) {
             Ok(part) => self.send(read_answer(ticket, NFS3_OK, part.eof, part.bytes)),
             Err(Failure::Store) => {
                 self.send(read_answer(ticket, NFS3ERR_IO, false, Vec::new(self.alloc)))
@@ -366,12 +371,7 @@ impl<C: Cluster> World<C> {
     }
 
     /// A READ.
-    pub fn read(
-        &mut self,
-        conn: u32,
-        call: ReadCall,
-        cluster: &mut C,
-    ) -> Result<String, AllocError>
+    pub fn read(&mut self, conn: u32, call: ReadCall, cluster: &mut C) -> Result<String, AllocError>
         requires home { Home C.File.tells (C.at cluster.old body_id) self.old.opened }
         ensures ok { IfOk result (λ text. IsStep C.File.tells (Reads conn call) (scene self.old (C.at cluster.old body_id) (C.count cluster.old)) (scene self.new (C.at cluster.new body_id) (C.count cluster.new)) (string_bytes text) false) }
         ensures err { OnErr result (IsCut C.File.tells (Reads conn call) (scene self.old (C.at cluster.old body_id) (C.count cluster.old)) (scene self.new (C.at cluster.new body_id) (C.count cluster.new))) }
