@@ -4,10 +4,11 @@
     bench/growths.py [--first N] [--last N] [--beyond N]
 
 The run is the one of crates/nfsgw/stdin. With the Nth allocation failing, for N = 1, 2, .., it must end with status 3
-(no memory) and a front of crates/nfsgw/stdout, or with status 0 and the whole of it. An allocation of the store in memory
-is the store's own: its append fails, and the run must end with status 0 and say so. It stops after the first run that
-ends with status 0 and `--beyond` more that do, since by then there is no Nth allocation. Each run is one of `rt try`,
-which builds the program again and takes some seconds.
+(no memory) and a front of crates/nfsgw/stdout, or with status 0 and the whole of it. Where memory is refused for a
+request alone, the run must end with status 0, and the request is answered SYSTEM_ERR and changed nothing. An allocation of
+the store in memory is the store's own: its append fails, and the run must end with status 0 and say so. It stops after the
+first run that writes the whole output and `--beyond` more that do, since by then there is no Nth allocation. Each run is one
+of `rt try`, which builds the program again and takes some seconds.
 """
 
 import argparse
@@ -29,6 +30,10 @@ context 4 from 0
 write 1 0 5 lost -
 ended 4 end reach 5 stored 0 synced 0
 """
+
+# What it writes where memory is refused for its one request: a reply of SYSTEM_ERR (RFC 5531 section 9). No file is open
+# then, so there is no history.
+REFUSED = b"reply 1 80000018000000010000000100000000000000000000000000000005\n"
 
 # The last line of `rt try`, on standard error, where the program ran to its end.
 ENDED = re.compile(rb"^run=ended status=(\d+) ", re.MULTILINE)
@@ -53,15 +58,15 @@ def run_failing_at(number, crate, words):
 
 def is_right(status, output, whole):
     if status == DONE:
-        return output in (whole, APPEND_FAILED)
+        return output in (whole, APPEND_FAILED, REFUSED)
     return status == NO_MEMORY and whole.startswith(output)
 
 
 def read_options():
     parser = argparse.ArgumentParser(description="Lets each growth of memory in a run of nfsgw fail in turn.")
     parser.add_argument("--first", type=int, default=1, help="the first allocation that fails")
-    parser.add_argument("--last", type=int, default=1000, help="the last one, if no run ends with status 0 before")
-    parser.add_argument("--beyond", type=int, default=1, help="how many more runs must end with status 0")
+    parser.add_argument("--last", type=int, default=1000, help="the last one, if no run writes the whole output before")
+    parser.add_argument("--beyond", type=int, default=1, help="how many more runs must write the whole output")
     parser.add_argument("--crate", default=CRATE, help="the program's folder, with its stdin, stdout and args")
     return parser.parse_args()
 
@@ -78,12 +83,12 @@ def main():
         status, output = run_failing_at(number, options.crate, words)
         right = is_right(status, output, whole)
         wrong += not right
-        done = done + 1 if status == DONE else 0
+        done = done + 1 if status == DONE and output == whole else 0
         print(f"{number}: status {status}, {len(output)} of {len(whole)} bytes{'' if right else ': WRONG'}", flush=True)
         if done > options.beyond:
             break
     else:
-        sys.exit(f"growths: no run ended with status 0 up to allocation {options.last}")
+        sys.exit(f"growths: no run wrote the whole output up to allocation {options.last}")
     if wrong:
         sys.exit(f"growths: {wrong} runs ended wrong")
     print(f"allocations {options.first} to {number - done} failed in turn, and each run ended as it must")
