@@ -1,6 +1,8 @@
 #!/usr/bin/env python3
 """Times nfsgw over uploads: WRITE calls in windows, each window followed by a turn of the writer for each of its writes.
 
+The line to the writer has eight slots, so there is a pump after each eight turns of a window, which sends what is ready.
+
     bench/uploads.py [--counts N N] [--size BYTES] [--windows N ..] [--runs N] [--program PATH]
 
 The writes of a window are sent in order, but for its first one, which comes last; in windows of one write all are in
@@ -27,6 +29,9 @@ PROGRAM = os.path.join(CRATE, "out", "nfsgw")
 
 # The greatest number of data bytes of a WRITE.
 MAX_SIZE = 1_048_576
+
+# The slots of the line to the writer.
+SLOTS = 8
 
 FILE_ID = 4
 FILE_SYSTEM_ID = 1
@@ -77,7 +82,10 @@ def make_transcript(path, count, size, window):
                 xid += 1
                 call = write_call(xid, place * size, content_of(place, size))
                 out.write(f"bytes 1 {call.hex()}\n")
-            out.write("turn 4\n" * len(places))
+            for first in range(0, len(places), SLOTS):
+                if first > 0:
+                    out.write("pump 4\n")
+                out.write("turn 4\n" * min(SLOTS, len(places) - first))
         out.write("end\n")
 
 
