@@ -3,7 +3,7 @@ ghost use Rattle.std.specs.Prelude.{◌≡◌, ◌++◌, ◌*◌, ◌<◌, None,
 ghost use Rattle.hex.specs.Hex.{decode_pairs, encode_lower, hex_digit_value};
 ghost use Rattle.transcript.specs.Fields.{bytes_of};
 
-use std::alloc::{AllocError, Global};
+use std::alloc::AllocError;
 
 // What stands for no digit, above the value of each.
 const NO_DIGIT: u8 = 255;
@@ -37,16 +37,21 @@ fn decode_pairs(text: &[u8], bytes: &mut [u8]) -> bool
 }
 
 /// The bytes of a field, which has two hex digits of either case a byte and at least one byte. Every other text is
-/// `None`. It fails only for want of memory.
-pub fn decode(alloc: Global, text: &[u8]) -> Result<Option<Vec<u8>>, AllocError>
+/// `None`. The bytes lie in the room, which grows where it is too small and never shrinks, so that one block serves all
+/// fields of a run. It fails only for want of memory.
+pub fn decode<'r>(text: &[u8], room: &'r mut Vec<u8>) -> Result<Option<&'r [u8]>, AllocError>
     ensures { IfOk result (λ field. MatchOption field (bytes_of text.now ≡ None)
-        (λ bytes. bytes_of text.now ≡ Some bytes.items)) }
+        (λ bytes. bytes_of text.now ≡ Some bytes.now)) }
 {
     if text.is_empty() || text.len() % 2 != 0 {
         return Ok(None);
     }
-    let mut bytes = vec![in alloc; 0u8; text.len() / 2]?;
-    if decode_pairs(text, bytes.as_mut_slice()) {
+    let count = text.len() / 2;
+    if room.len() < count {
+        room.resize(count, 0)?;
+    }
+    let bytes = &mut room[..count];
+    if decode_pairs(text, bytes) {
         Ok(Some(bytes))
     } else {
         Ok(None)

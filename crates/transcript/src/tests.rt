@@ -153,16 +153,23 @@ fn reads_numbers(rt: HostRuntime) {
 }
 
 #[test]
-fn reads_and_writes_hex(rt: HostRuntime) -> Result<(), Fail> {
-    let alloc = rt.alloc();
-    let bytes = decode(alloc, b"0aFfAb")?.expect(&rt, "digits");
-    assert_eq!(rt; bytes.as_slice(), [0x0a, 0xff, 0xab].as_slice());
-    assert!(rt; decode(alloc, b"")?.is_none());
-    assert!(rt; decode(alloc, b"0a0")?.is_none());
-    assert!(rt; decode(alloc, b"0g")?.is_none());
-    assert!(rt; decode(alloc, b"0a ")?.is_none());
-    let mut text = Vec::from_slice(alloc, b"reply 1 ")?;
-    push_hex(&mut text, bytes.as_slice())?;
+fn reads_hex(rt: HostRuntime) -> Result<(), Fail> {
+    let mut room = Vec::new(rt.alloc());
+    let bytes = decode(b"0aFfAb", &mut room)?.expect(&rt, "digits");
+    assert_eq!(rt; bytes, [0x0a, 0xff, 0xab].as_slice());
+    let bytes = decode(b"7f", &mut room)?.expect(&rt, "digits");
+    assert_eq!(rt; bytes, [0x7f].as_slice());
+    assert!(rt; decode(b"", &mut room)?.is_none());
+    assert!(rt; decode(b"0a0", &mut room)?.is_none());
+    assert!(rt; decode(b"0g", &mut room)?.is_none());
+    assert!(rt; decode(b"0a ", &mut room)?.is_none());
+    Ok(())
+}
+
+#[test]
+fn writes_hex(rt: HostRuntime) -> Result<(), Fail> {
+    let mut text = Vec::from_slice(rt.alloc(), b"reply 1 ")?;
+    push_hex(&mut text, &[0x0a, 0xff, 0xab])?;
     assert_eq!(rt; text.as_slice(), b"reply 1 0affab".as_slice());
     Ok(())
 }
