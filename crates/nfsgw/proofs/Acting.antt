@@ -1,13 +1,12 @@
 -- What an act of the program leaves is what the definition's leaves.
-use Rattle.std.proofs.Common.{◌≡◌, ℕ, ◌+◌, ◌-◌, ◌^◌, ◌<◌, ◌≤◌, ◌⊎◌, inl, inr, Bool, true, false, List, [], ◌∷◌, ◌++◌, Option, Some, None, Result, Ok, Err, refl, sym, ◌∙◌, ap, subst, append_assoc, append-nil, arith}
+use Rattle.std.proofs.Common.{◌≡◌, ℕ, ◌+◌, ◌-◌, ◌^◌, ◌<◌, ◌≤◌, inl, inr, Bool, true, false, List, [], ◌∷◌, ◌++◌, Option, Some, None, Result, Ok, Err, refl, sym, ◌∙◌, ap, subst, append-nil, arith}
 use Rattle.std.specs.Prelude.{◌==◌, ◌&&◌, IfOk, OnErr}
 use Rattle.std.proofs.lemmas.Bool.Decides.{nat_tests}
-use Rattle.gw_model.specs.Ahead.{Ahead, Outcome, Done, Failed, Listed, NoMemory, refused, past_refusal}
-use Rattle.gw_model.specs.File.{Answer, SystemErr, File, Step, content}
-use Rattle.gw_model.specs.Views.{Noted, next_event, next_request, with_note}
+use Rattle.gw_model.specs.Ahead.{Ahead, Outcome, Done, Failed, Listed, NoMemory, refused}
+use Rattle.gw_model.specs.File.{Answer, SystemErr, File, Step}
+use Rattle.gw_model.specs.Views.{Noted, next_event, next_request}
 use Rattle.tickets.specs.Desk.{TicketId, DeskState, issued, answered, cancelled, owed}
 use Rattle.append_store.specs.State.{ObjectState}
-use Rattle.transcript.specs.Writing.{IsPrefix}
 use Rattle.file_cell.specs.State.{CellState}
 use Rattle.file_cell.specs.Files as cell
 use Rattle.file_cell.specs.Files.{StandsFor, Follows}
@@ -25,11 +24,11 @@ use Rattle.nfsgw.specs.Text.{closed_line}
 use Rattle.nfsgw.specs.declared.call.ReadCall.{ReadCall}
 use Rattle.nfsgw.specs.declared.call.WriteCall.{WriteCall}
 use Rattle.nfsgw.specs.Headline.{Fails}
-use Rattle.nfsgw.specs.World.{World, Turned, body_of, next, send, sends, text_to, of_step, ask, asked, tried, begun, defaults, saying, writing, reading, write_in, read_in, write_request, read_request}
-use Rattle.nfsgw.specs.Outside.{Kept, Scene, body_at, faults_at, scene, IsOpen, IsWorld, ahead_at, are_after, IsAfter, PassedFrom, Passed, Notes, Goes, Doing, StepsFrom, Steps, Breaks, acts, IsStep, IsCut}
+use Rattle.nfsgw.specs.World.{World, body_of, next, send, sends, text_to, of_step, ask, asked, tried, begun, defaults, saying, writing, reading, write_in, read_in, write_request, read_request}
+use Rattle.nfsgw.specs.Outside.{Kept, Scene, body_at, faults_at, scene, IsOpen, IsWorld, ahead_at, IsAfter, Notes, Goes, Doing, StepsFrom, Steps, Breaks, acts, IsStep, IsCut}
 use Rattle.gw_model.specs.Sides.{Told}
 use Rattle.file_cell.specs.Steps.{Tells}
-use Rattle.nfsgw.specs.Answering.{IsReady, ArePlainIn, IsAsked, SameButRoom, are_from, IsFrom, noted_by, refusing, sent, Tries}
+use Rattle.nfsgw.specs.Answering.{IsReady, ArePlainIn, IsAsked, SameButRoom, IsFrom, noted_by, refusing, sent}
 use Rattle.nfsgw.proofs.Growing.{good_of, grows_one}
 
 -- numbers of events and requests

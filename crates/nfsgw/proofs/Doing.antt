@@ -1,5 +1,5 @@
 -- Acts that are done one after another.
-use Rattle.std.proofs.Common.{◌≡◌, ℕ, ◌-◌, ◌^◌, ◌<◌, inl, inr, Bool, true, false, List, [], ◌∷◌, ◌++◌, map, Option, Some, None, refl, sym, ◌∙◌, ap, subst, append_assoc, append-nil, arith}
+use Rattle.std.proofs.Common.{◌≡◌, ℕ, ◌-◌, ◌^◌, ◌<◌, Bool, true, false, List, [], ◌∷◌, ◌++◌, map, Option, Some, None, refl, sym, ◌∙◌, ap, subst, append_assoc, append-nil, arith}
 use Rattle.gw_model.specs.Ahead.{Ahead, Outcome, Called, Good, Bad}
 use Rattle.gw_model.specs.Views.{Noted, next_event}
 use Rattle.file_cell.specs.State.{CellState}

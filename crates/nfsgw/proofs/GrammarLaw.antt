@@ -16,7 +16,7 @@ use Rattle.hex.specs.Hex.{decode_of}
 use Rattle.hex.specs.declared.error.FromHexError.{FromHexError}
 use Rattle.transcript.specs.Fields.{number_of, some_bytes}
 use Rattle.transcript.proofs.Numbers.{number_of-some, number_of-decimal}
-use Rattle.nfsgw.specs.Grammar.{IsLine, IsName, is_name, file_line, bytes_line, piece_in, longer_line, line_of}
+use Rattle.nfsgw.specs.Grammar.{IsLine, IsName, is_name, file_line, bytes_line, piece_in, other_line, line_of}
 use Rattle.nfsgw.specs.declared.grammar.Event.TheVariants.{MakeFile, Bytes, Turn, Pump}
 use Rattle.nfsgw.specs.declared.grammar.Line.{Line}
 use Rattle.nfsgw.specs.declared.grammar.Line.TheVariants.{Go, End}
@@ -139,27 +139,27 @@ bytes_whole first text End w p = absurd p
 
 -- what stands in each branch, from the last test to the first
 
-on_bytes : (first : Bool) (text : List ℕ) (line : Line) (b : Bool) → starts_with nat_eq text (codes "bytes ") ≡ b
-    → cond b (bytes_line (drop 6 text) (position (λ b. b == 32) (drop 6 text))) (file_line first text) ≡ Some line → IsLine first text line
-on_bytes first text line true t f = bytes_whole first text line (word_front (codes "bytes ") text t) (bytes_back (drop 6 text) (position (λ b. b == 32) (drop 6 text)) line refl f)
-on_bytes first text line false t f = file_back first text line f
+on_end : (first : Bool) (text : List ℕ) (line : Line) (b : Bool) → bytes_eq text (codes "end") ≡ b
+    → cond b (Some End) (file_line first text) ≡ Some line → IsLine first text line
+on_end first text line true t f = let is : line ≡ End = cc in subst (IsLine first text) (sym is) ((bytes_eq-Decides text (codes "end")).0 t)
+on_end first text line false t f = file_back first text line f
 
 on_pump : (first : Bool) (text : List ℕ) (line : Line) (b : Bool) → bytes_eq text (codes "pump 4") ≡ b
-    → cond b (Some (Go Pump)) (longer_line first text) ≡ Some line → IsLine first text line
+    → cond b (Some (Go Pump)) (cond (bytes_eq text (codes "end")) (Some End) (file_line first text)) ≡ Some line → IsLine first text line
 on_pump first text line true t f = let is : line ≡ Go Pump = cc in subst (IsLine first text) (sym is) ((bytes_eq-Decides text (codes "pump 4")).0 t)
-on_pump first text line false t f = on_bytes first text line (starts_with nat_eq text (codes "bytes ")) refl f
+on_pump first text line false t f = on_end first text line (bytes_eq text (codes "end")) refl f
 
 on_turn : (first : Bool) (text : List ℕ) (line : Line) (b : Bool) → bytes_eq text (codes "turn 4") ≡ b
-    → cond b (Some (Go Turn)) (cond (bytes_eq text (codes "pump 4")) (Some (Go Pump)) (longer_line first text)) ≡ Some line → IsLine first text line
+    → cond b (Some (Go Turn)) (cond (bytes_eq text (codes "pump 4")) (Some (Go Pump)) (cond (bytes_eq text (codes "end")) (Some End) (file_line first text))) ≡ Some line
+    → IsLine first text line
 on_turn first text line true t f = let is : line ≡ Go Turn = cc in subst (IsLine first text) (sym is) ((bytes_eq-Decides text (codes "turn 4")).0 t)
 on_turn first text line false t f = on_pump first text line (bytes_eq text (codes "pump 4")) refl f
 
-on_end : (first : Bool) (text : List ℕ) (line : Line) (b : Bool) → bytes_eq text (codes "end") ≡ b
-    → cond b (Some End) (cond (bytes_eq text (codes "turn 4")) (Some (Go Turn)) (cond (bytes_eq text (codes "pump 4")) (Some (Go Pump)) (longer_line first text))) ≡ Some line
-    → IsLine first text line
-on_end first text line true t f = let is : line ≡ End = cc in subst (IsLine first text) (sym is) ((bytes_eq-Decides text (codes "end")).0 t)
-on_end first text line false t f = on_turn first text line (bytes_eq text (codes "turn 4")) refl f
+on_bytes : (first : Bool) (text : List ℕ) (line : Line) (b : Bool) → starts_with nat_eq text (codes "bytes ") ≡ b
+    → cond b (bytes_line (drop 6 text) (position (λ b. b == 32) (drop 6 text))) (other_line first text) ≡ Some line → IsLine first text line
+on_bytes first text line true t f = bytes_whole first text line (word_front (codes "bytes ") text t) (bytes_back (drop 6 text) (position (λ b. b == 32) (drop 6 text)) line refl f)
+on_bytes first text line false t f = on_turn first text line (bytes_eq text (codes "turn 4")) refl f
 
 pub read_as : (first : Bool) (text : List ℕ) (line : Line) → line_of first text ≡ Some line → IsLine first text line
 unfolding line_of
-read_as first text line e = on_end first text line (bytes_eq text (codes "end")) refl e
+read_as first text line e = on_bytes first text line (starts_with nat_eq text (codes "bytes ")) refl e

@@ -1,28 +1,27 @@
 -- What a turn and a pump of the open file leave.
-use Rattle.std.proofs.Common.{◌≡◌, ℕ, ◌+◌, ◌-◌, ◌^◌, ◌<◌, ◌≤◌, min, Bool, true, false, List, [], ◌∷◌, ◌++◌, length, map, Option, Some, None, Result, Ok, Err, refl, sym, ◌∙◌, ap, subst, append_assoc, append-nil, arith}
+use Rattle.std.proofs.Common.{◌≡◌, ℕ, ◌+◌, ◌-◌, ◌^◌, ◌<◌, Bool, true, false, List, [], ◌∷◌, ◌++◌, map, Option, Some, None, Result, Ok, Err, refl, sym, ◌∙◌, ap, subst, append_assoc, append-nil, arith}
 use Rattle.std.specs.Prelude.{◌&&◌, IfOk, OnOk, OnErr, IsErr}
 use Rattle.file_cell.specs.declared.cell.Stepped.{Stepped}
 use Rattle.file_cell.specs.declared.cell.Stepped.TheVariants as stepped
-use Rattle.gw_model.specs.Ahead.{Ahead, Outcome, Done, Failed, NoMemory, Called, Good, Bad, refused}
-use Rattle.gw_model.specs.File.{Answer, File, Step}
+use Rattle.gw_model.specs.Ahead.{Ahead, Outcome, NoMemory, Called, Good, Bad, refused}
+use Rattle.gw_model.specs.File.{Answer, File}
 use Rattle.gw_model.specs.Admission.{pump}
 use Rattle.gw_model.specs.Views.{Noted, next_event}
 use Rattle.gw_model.specs.Writer.{turn}
 use Rattle.tickets.specs.Desk.{DeskState, owed}
 use Rattle.tickets.specs.declared.answer.Answer.{Answer as Sendable}
 use Rattle.append_store.specs.State.{ObjectState}
-use Rattle.admit.specs.Answers.{answer_of, IsPlain}
+use Rattle.admit.specs.Answers.{answer_of}
 use Rattle.admit.specs.Leaving.{Hands}
-use Rattle.job_line.specs.declared.items.Job.{Job}
 use Rattle.writeback.specs.Steps as writeback
 use Rattle.writeback.specs.Steps.{outcome_by, is_want, past, put_by, takes_memory, with_calls}
 use Rattle.file_cell.specs.State.{CellState}
 use Rattle.file_cell.specs.Files.{StandsFor, Idles, Pumps}
 use Rattle.file_cell.specs.Steps as cell
 use Rattle.nfsgw.specs.Acts.{Act, Turns as TurnsAct, Pumps as PumpsAct}
-use Rattle.nfsgw.specs.Headline.{Fails, failed_count}
+use Rattle.nfsgw.specs.Headline.{failed_count}
 use Rattle.nfsgw.specs.World.{World, does, send, sends, of_step, told_to, spent, turn_in, pump_in, at_event, defaults, next}
-use Rattle.nfsgw.specs.Outside.{Kept, Scene, body_at, faults_at, scene, IsOpen, IsWorld, ahead_at, are_after, IsAfter, Goes, Steps, Breaks, acts, IsStep, IsCut}
+use Rattle.nfsgw.specs.Outside.{Kept, Scene, body_at, faults_at, scene, IsOpen, ahead_at, are_after, IsAfter, Goes, acts, IsStep, IsCut}
 use Rattle.nfsgw.specs.Answering.{IsFrom, IsJob, Turned, SameSettings, ArePlain, firsts, noted_by, wants}
 use Rattle.nfsgw.proofs.Acting.{after_event, from_after, from_here, not_refused, refused_here, sending, false_right, breaks_still, breaks_of}
 

@@ -5,41 +5,12 @@ use Rattle.nfsgw.specs.declared.link.Link.{Link}
 use Rattle.nfsgw.specs.declared.link.Link.TheVariants.{Open, Closed}
 use Rattle.nfsgw.specs.declared.gateway.Served.{Served}
 use Rattle.nfsgw.proofs.Doing.{does_none}
-use Rattle.std.proofs.Common.{string_bytes, ◌++◌, ◌≡◌, ℕ, Bool, true, false, cond, Option, Some, None, List, [], ◌∷◌, refl, sym, ◌∙◌, ap, arith}
-use Rattle.std.specs.declared.cmp.Ordering.{Ordering}
-use Rattle.std.specs.declared.cmp.Ordering.TheVariants.{Less, Equal, Greater}
-use Rattle.std.specs.Ordering.{nat_cmp, is_eq, match_ordering}
-use Rattle.std.specs.BTreeMap.{insert_entry, is_at}
-use Rattle.std.specs.Map.{lookup, set_value}
-use Rattle.std.proofs.lemmas.Bool.Decides.{nat_tests}
-
-at_itself : (k : ℕ) → is_at (nat_cmp k) k ≡ true
-at_itself k = let same : nat_cmp k k ≡ Equal = grind (arith, nat_tests) in ap is_eq same
+use Rattle.std.proofs.Common.{string_bytes, ◌++◌, ◌≡◌, ℕ, Bool, true, false, cond, Option, List, [], ◌∷◌, refl, sym, ◌∙◌, ap}
+use Rattle.std.specs.Ordering.{nat_cmp}
+use Rattle.std.specs.BTreeMap.{is_at}
+use Rattle.std.specs.Map.{set_value}
 
 module _ {X : Type 0} where
-  -- nothing is set where nothing is there
-  pub set_absent : (test : ℕ → Bool) (es : List (ℕ × X)) (w : X) → lookup test es ≡ None → set_value test es w ≡ es
-  set_absent test [] w none = refl
-  set_absent test (e ∷ es) w none = go (test e.0) none (λ rest. set_absent test es w rest)
-    where
-      go : (b : Bool) → cond b (Some e.1) (lookup test es) ≡ None → (lookup test es ≡ None → set_value test es w ≡ es) → cond b ((e.0, w) ∷ es) (e ∷ set_value test es w) ≡ e ∷ es
-      go true none rest = absurd (cc none)
-      go false none rest = ap (λ xs. e ∷ xs) (rest none)
-
-  -- what was inserted is set
-  pub set_inserted : (k : ℕ) (es : List (ℕ × X)) (v w : X) → lookup (is_at (nat_cmp k)) es ≡ None → set_value (is_at (nat_cmp k)) (insert_entry nat_cmp es k v) w ≡ insert_entry nat_cmp es k w
-  set_inserted k [] v w none = ap (λ b. cond b ((k, w) ∷ []) ((k, v) ∷ [])) (at_itself k)
-  set_inserted k (e ∷ es) v w none = go (nat_cmp k e.0) refl (λ rest. set_inserted k es v w rest)
-    where
-      go : (o : Ordering) → nat_cmp k e.0 ≡ o → (lookup (is_at (nat_cmp k)) es ≡ None → set_value (is_at (nat_cmp k)) (insert_entry nat_cmp es k v) w ≡ insert_entry nat_cmp es k w)
-          → set_value (is_at (nat_cmp k)) (match_ordering o ((k, v) ∷ e ∷ es) ((e.0, v) ∷ es) (e ∷ insert_entry nat_cmp es k v)) w ≡ match_ordering o ((k, w) ∷ e ∷ es) ((e.0, w) ∷ es) (e ∷ insert_entry nat_cmp es k w)
-      go Less is rest = ap (λ b. cond b ((k, w) ∷ e ∷ es) ((k, v) ∷ set_value (is_at (nat_cmp k)) (e ∷ es) w)) (at_itself k)
-      go Equal is rest = let some : Some e.1 ≡ None = ap (λ b. cond b (Some e.1) (lookup (is_at (nat_cmp k)) es)) (sym (ap is_eq is)) ∙ none in absurd (cc some)
-      go Greater is rest =
-          let other : is_at (nat_cmp k) e.0 ≡ false = ap is_eq is in
-          let later : lookup (is_at (nat_cmp k)) es ≡ None = ap (λ b. cond b (Some e.1) (lookup (is_at (nat_cmp k)) es)) (sym other) ∙ none in
-          ap (λ b. cond b ((e.0, w) ∷ insert_entry nat_cmp es k v) (e ∷ set_value (is_at (nat_cmp k)) (insert_entry nat_cmp es k v) w)) other ∙ ap (λ xs. e ∷ xs) (rest later)
-
   -- what is set twice
   pub set_twice : (test : ℕ → Bool) (es : List (ℕ × X)) (v w : X) → set_value test (set_value test es v) w ≡ set_value test es w
   set_twice test [] v w = refl

@@ -1,5 +1,5 @@
 -- The `file` line's call on the store.
-use Rattle.std.proofs.Common.{◌≡◌, ℕ, ◌+◌, ◌≤◌, ◌⊎◌, inl, inr, true, false, List, [], ◌∷◌, ◌++◌, Option, None, refl, sym, ◌∙◌, ap, subst, append-nil, arith}
+use Rattle.std.proofs.Common.{◌≡◌, ℕ, ◌≤◌, inl, inr, true, false, List, [], ◌∷◌, None, refl, sym, ◌∙◌, ap, subst, append-nil, arith}
 use Rattle.gw_outside.specs.Causes.{Rose}
 use Rattle.gw_model.specs.Ahead.{Done, Failed}
 use Rattle.gw_model.specs.Views.{Noted, with_note}
@@ -8,7 +8,6 @@ use Rattle.append_store.specs.Calls.{Creates, MayCreate}
 use Rattle.nfsgw.specs.Acts.{Make}
 use Rattle.nfsgw.specs.World.{next}
 use Rattle.nfsgw.specs.Outside.{Kept, body_at, faults_at, scene, IsOpen, IsStep, IsCut}
-use Rattle.nfsgw.specs.Answering.{SameButRoom}
 use Rattle.nfsgw.proofs.Acting.{breaks_still, room_after}
 
 -- a body that isn't out keeps its bytes

@@ -1,14 +1,12 @@
 -- What a request of the closed file comes to.
-use Rattle.std.proofs.Common.{◌≡◌, ℕ, ◌+◌, ◌-◌, ◌^◌, ◌<◌, ◌≤◌, ◌⊎◌, inl, inr, min, nat_le, Bool, true, false, List, [], ◌∷◌, ◌++◌, length, Option, Some, None, refl, sym, ◌∙◌, ap, subst, append_assoc, append-nil, arith}
-use Rattle.gw_model.specs.Ahead.{Ahead, Outcome, Done, Failed, NoMemory, Called, Good, Bad, next_call, refused}
-use Rattle.gw_model.specs.File.{Answer, Body, SystemErr, NotWritten, NotGiven, Gave, File, opened}
+use Rattle.std.proofs.Common.{◌≡◌, ℕ, ◌+◌, ◌≤◌, ◌⊎◌, inl, inr, min, nat_le, Bool, true, false, List, [], ◌∷◌, ◌++◌, length, None, refl, sym, ◌∙◌, ap, subst, append_assoc, append-nil, arith}
+use Rattle.gw_model.specs.Ahead.{Ahead, Done, Failed, NoMemory, Called, Good, Bad, next_call, refused}
+use Rattle.gw_model.specs.File.{Answer, Body, SystemErr, NotWritten, NotGiven, Gave, opened}
 use Rattle.gw_model.specs.Admission.{io, WriteRequest, ReadRequest, write}
 use Rattle.gw_model.specs.Sides.{Told, side_opened}
-use Rattle.gw_model.specs.Views.{Noted, with_note}
-use Rattle.gw_model.specs.Writer.{range_of}
-use Rattle.gw_outside.specs.Causes.{Rose, Carries}
-use Rattle.tickets.specs.Desk.{TicketId, DeskState}
-use Rattle.append_store.specs.State.{ObjectState, IsThere, bytes_of}
+use Rattle.gw_model.specs.Views.{Noted}
+use Rattle.tickets.specs.Desk.{DeskState}
+use Rattle.append_store.specs.State.{ObjectState, bytes_of}
 use Rattle.writeback.specs.State.{fresh}
 use Rattle.writeback.specs.Steps.{with_calls}
 use Rattle.file_cell.specs.State.{CellState}
@@ -21,12 +19,11 @@ use Rattle.admit.specs.Answers.{answer_of, body_of}
 use Rattle.admit.specs.Calls as admit
 use Rattle.admit.specs.Calls.{answers_of, is_refusal}
 use Rattle.admit.specs.declared.request.Verdict.{Verdict}
-use Rattle.admit.specs.declared.request.Verdict.TheVariants as verdict
 use Rattle.admit.specs.declared.request.WriteReq.{WriteReq}
 use Rattle.nfsgw.specs.World.{World, Turned, send, sends, answer, no_memory, tried, defaults, of_step, opened_for, write_in, read_in, read_request, read_stored, reading, part_of}
-use Rattle.nfsgw.specs.Outside.{Kept, Scene, body_at, faults_at, scene, IsOpen, IsWorld, ahead_at, IsAfter, Doing, StepsFrom}
-use Rattle.nfsgw.specs.Opening.{IsOpened, IsFailure, Fails, IsPart}
-use Rattle.nfsgw.specs.Answering.{IsFrom, IsReady, refusing, sent}
+use Rattle.nfsgw.specs.Outside.{Kept, body_at, faults_at, scene, IsOpen, IsWorld, ahead_at, Doing, StepsFrom}
+use Rattle.nfsgw.specs.Opening.{IsOpened, Fails, IsPart}
+use Rattle.nfsgw.specs.Answering.{IsFrom, refusing, sent}
 use Rattle.nfsgw.specs.declared.call.ReadCall.{ReadCall}
 use Rattle.nfsgw.specs.declared.opening.Failure.{Failure}
 use Rattle.nfsgw.specs.declared.opening.Failure.TheVariants as failure

@@ -57,13 +57,13 @@ line_kind : (first : Bool) (text : List ℕ) → IsKind first (line_of first tex
 unfolding line_of
 line_kind first text =
     let sent = bytes_line (drop 6 text) (position (λ b. b == 32) (drop 6 text)) in
-    let last : Option Line = if starts_with nat_eq text (codes "bytes ") then sent else file_line first text in
-    let pump : Option Line = if bytes_eq text (codes "pump 4") then Some (Go Pump) else last in
+    let end : Option Line = if bytes_eq text (codes "end") then Some End else file_line first text in
+    let pump : Option Line = if bytes_eq text (codes "pump 4") then Some (Go Pump) else end in
     let turn : Option Line = if bytes_eq text (codes "turn 4") then Some (Go Turn) else pump in
-    by_test (IsKind first) (bytes_eq text (codes "end")) (Some End) turn tt
+    by_test (IsKind first) (starts_with nat_eq text (codes "bytes ")) sent turn (bytes_kind first (drop 6 text) (position (λ b. b == 32) (drop 6 text)))
     (by_test (IsKind first) (bytes_eq text (codes "turn 4")) (Some (Go Turn)) pump tt
-    (by_test (IsKind first) (bytes_eq text (codes "pump 4")) (Some (Go Pump)) last tt
-    (by_test (IsKind first) (starts_with nat_eq text (codes "bytes ")) sent (file_line first text) (bytes_kind first (drop 6 text) (position (λ b. b == 32) (drop 6 text))) (file_kind first text))))
+    (by_test (IsKind first) (bytes_eq text (codes "pump 4")) (Some (Go Pump)) end tt
+    (by_test (IsKind first) (bytes_eq text (codes "end")) (Some End) (file_line first text) tt (file_kind first text))))
 
 -- the event of a line may be done, where no file is in the tree before the first line
 pub line_ready : (first in_tree : Bool) (text : List ℕ) (event : Event) → line_of first text ≡ Some (Go event) → (first ≡ true → in_tree ≡ false) → IsReady event in_tree

@@ -5,7 +5,7 @@ use Rattle.gw_model.specs.File.{Answer, File, Step, SystemErr}
 use Rattle.gw_model.specs.Writer.{turn}
 use Rattle.gw_model.specs.Ending.{Ended as AtEnd}
 use Rattle.gw_model.specs.Views.{Noted, next_request, with_note}
-use Rattle.tickets.specs.Desk.{TicketId, DeskState, issued, next_ticket}
+use Rattle.tickets.specs.Desk.{TicketId, issued, next_ticket}
 use Rattle.tickets.specs.declared.answer.Answer.{Answer as Sendable}
 use Rattle.admit.specs.Answers.{IsPlain, answer_of}
 use Rattle.writeback.specs.Steps.{is_want}

@@ -46,17 +46,17 @@ bytes_line text (Some i) = piece_in (number_of 32 (take i text)) (bytes_of (drop
 abbrev pub file_line : Bool → List ℕ → Option Line
 file_line first text = if first && starts_with nat_eq text (codes "file ") && is_name (drop 5 text) then Some (Go MakeFile) else None
 
--- `bytes CONN HEX` or `file NAME`
-abbrev pub longer_line : Bool → List ℕ → Option Line
-longer_line first text = if starts_with nat_eq text (codes "bytes ") then bytes_line (drop 6 text) (position (λ b. b == 32) (drop 6 text)) else file_line first text
+-- a line that sends nothing
+abbrev pub other_line : Bool → List ℕ → Option Line
+other_line first text =
+    if bytes_eq text (codes "turn 4") then Some (Go Turn)
+    else if bytes_eq text (codes "pump 4") then Some (Go Pump)
+    else if bytes_eq text (codes "end") then Some End
+    else file_line first text
 
 -- The same as a function: the line that a text is, if it is one, as the first or as a later one.
 unfoldable pub line_of : Bool → List ℕ → Option Line
-line_of first text =
-    if bytes_eq text (codes "end") then Some End
-    else if bytes_eq text (codes "turn 4") then Some (Go Turn)
-    else if bytes_eq text (codes "pump 4") then Some (Go Pump)
-    else longer_line first text
+line_of first text = if starts_with nat_eq text (codes "bytes ") then bytes_line (drop 6 text) (position (λ b. b == 32) (drop 6 text)) else other_line first text
 
 -- what a line leaves of the grammar: whether the next one is the first
 abbrev pub reading_of : Option Line → Reading Bool Event

@@ -1,6 +1,5 @@
 -- What the program keeps of a world, what is seen outside of it, and what a step leaves of both.
 use Rattle.std.specs.Prelude.{◌≡◌, ℕ, ◌+◌, ◌<◌, ◌^◌, ◌≤◌, ◌⊎◌, length, Bool, true, false, List, [], ◌∷◌, ◌++◌, Option, Some, None, string_bytes}
-use Rattle.std.specs.Option.{option_map}
 use Rattle.gw_model.specs.declared.object.ObjectId.{ObjectId}
 use Rattle.gw_model.specs.declared.object.ObjectId.TheVariants.{Body}
 use Rattle.gw_model.specs.Ahead.{Ahead, Outcome, NoMemory}

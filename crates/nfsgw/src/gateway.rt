@@ -194,7 +194,7 @@ impl<C: Cluster> Gateway<C> {
         requires stands { Stands C.File.tells self.old.front.in_tree (C.at cluster.old body_id) self.old.kept.opened }
         requires ready { IsReady event self.old.front.in_tree }
         requires few { self.old.kept.noted.event < 2 ^ 64 - 1 }
-        ensures step { IsStepped C.File.tells result event self.old.front self.new.front (scene self.old.kept (C.at cluster.old body_id) (C.count cluster.old)) (scene self.new.kept (C.at cluster.new body_id) (C.count cluster.new)) }
+        ensures step { IsStepped C.File.tells result event.entry self.old.front self.new.front (scene self.old.kept (C.at cluster.old body_id) (C.count cluster.old)) (scene self.new.kept (C.at cluster.new body_id) (C.count cluster.new)) }
         ensures event { self.new.kept.noted.event ≤ self.old.kept.noted.event + 1 }
         ensures others { C.File.tells → (q : ObjectId) → q ≢ body_id → C.at cluster.new q ≡ C.at cluster.old q }
         ensures safe { Safe C.File.tells (C.at cluster.new body_id) self.new.kept.opened }

@@ -2,20 +2,42 @@
 ghost use Rattle.std.specs.Prelude.{◌≡◌, ◌↔◌, ◌==◌, ◌<◌, Bool, List, ℕ, Some, length, position, IfOk, IfSome};
 ghost use Rattle.std.specs.List.{list_all};
 ghost use Rattle.transcript.specs.Fields.{bytes_of};
-ghost use Rattle.nfsgw.specs.Grammar.{in_name, is_name as is_name_text, file_line as file_line_of, bytes_line, piece_in, longer_line as longer_line_of, line_of as line_of_text, IsLine};
+ghost use Rattle.nfsgw.specs.Grammar.{in_name, is_name as is_name_text, file_line as file_line_of, bytes_line, piece_in, other_line as other_line_of, line_of as line_of_text, IsLine};
 ghost use Rattle.nfsgw.specs.declared.grammar.Line.{Line as LineTerm};
 
-use bytes::Bytes;
-use std::alloc::{AllocError, Global};
+use std::alloc::AllocError;
+use std::marker::Model;
 use transcript::{decode, parse_u32};
+
+/// Bytes that a connection sends, which lie in the room that lines are decoded into.
+#[derive(Debug, Drop)]
+pub struct Piece<'a> {
+    bytes: &'a [u8],
+}
+
+impl<'a> Model for Piece<'a> {
+    ghost use Rattle.std.specs.Prelude.{ℕ, List};
+
+    ghost Value = { List ℕ };
+
+    ghost view = { λ p. p.bytes.now };
+}
+
+impl<'a> Piece<'a> {
+    pub fn as_slice(&self) -> &'a [u8]
+        ensures { result.now ≡ self.now }
+    {
+        self.bytes
+    }
+}
 
 /// What a line asks for.
 #[derive(Debug, Drop)]
-pub enum Event {
+pub enum Event<'a> {
     /// The file is made, empty, in the root.
     MakeFile,
     /// A connection sends these bytes, at least one, behind those that it sent before.
-    Bytes { conn: u32, bytes: Bytes },
+    Bytes { conn: u32, bytes: Piece<'a> },
     /// The writer does the first job.
     Turn,
     /// The open file hears of its writer, and sends what is ready.
@@ -24,8 +46,8 @@ pub enum Event {
 
 /// A line of a transcript.
 #[derive(Debug, Drop)]
-pub enum Line {
-    Go(Event),
+pub enum Line<'a> {
+    Go(Event<'a>),
     /// The last line; what follows isn't looked at.
     End,
 }
@@ -49,7 +71,7 @@ pub fn is_name(name: &[u8]) -> bool
 }
 
 // The line `file NAME`, which only the first can be.
-fn file_line(first: bool, text: &[u8]) -> Option<Line>
+fn file_line<'a>(first: bool, text: &[u8]) -> Option<Line<'a>>
     ensures { result ≡ file_line_of first text.now }
 {
     if first && text.starts_with(b"file ") && is_name(&text[5..]) {
@@ -60,16 +82,20 @@ fn file_line(first: bool, text: &[u8]) -> Option<Line>
 }
 
 // The line with these two fields, CONN and HEX.
-fn fields_line(alloc: Global, conn: Option<u32>, hex: &[u8]) -> Result<Option<Line>, AllocError>
+fn fields_line<'a>(
+    conn: Option<u32>,
+    hex: &[u8],
+    room: &'a mut Vec<u8>,
+) -> Result<Option<Line<'a>>, AllocError>
     ensures { IfOk result (λ line. line ≡ piece_in conn (bytes_of hex.now)) }
 {
     let Some(conn) = conn else {
         return Ok(None);
     };
-    let Some(bytes) = decode(alloc, hex)? else {
+    let Some(bytes) = decode(hex, room)? else {
         return Ok(None);
     };
-    let bytes = Bytes::from_vec(bytes)?;
+    let bytes = Piece { bytes };
     Ok(Some(Line::Go(Event::Bytes { conn, bytes })))
 }
 
@@ -81,39 +107,43 @@ fn first_space(text: &[u8]) -> Option<usize>
 }
 
 // What follows `bytes `: CONN HEX.
-fn bytes_rest(alloc: Global, rest: &[u8]) -> Result<Option<Line>, AllocError>
+fn bytes_rest<'a>(rest: &[u8], room: &'a mut Vec<u8>) -> Result<Option<Line<'a>>, AllocError>
     ensures { IfOk result (λ line. line ≡ bytes_line rest.now (position (λ b. b == 32) rest.now)) }
 {
     match first_space(rest) {
-        Some(i) => fields_line(alloc, parse_u32(&rest[..i]), &rest[i + 1..]),
+        Some(i) => fields_line(parse_u32(&rest[..i]), &rest[i + 1..], room),
         None => Ok(None),
     }
 }
 
-// The line `bytes CONN HEX` or `file NAME`.
-fn longer_line(alloc: Global, first: bool, text: &[u8]) -> Result<Option<Line>, AllocError>
-    ensures { IfOk result (λ line. line ≡ longer_line_of first text.now) }
+// A line that sends nothing.
+fn other_line<'a>(first: bool, text: &[u8]) -> Option<Line<'a>>
+    ensures { result ≡ other_line_of first text.now }
 {
-    if text.starts_with(b"bytes ") {
-        bytes_rest(alloc, &text[6..])
+    if text == b"turn 4".as_slice() {
+        Some(Line::Go(Event::Turn))
+    } else if text == b"pump 4".as_slice() {
+        Some(Line::Go(Event::Pump))
+    } else if text == b"end".as_slice() {
+        Some(Line::End)
     } else {
-        Ok(file_line(first, text))
+        file_line(first, text)
     }
 }
 
-/// The line that a text is, if it is one, as the first or as a later one. It fails only for want of memory.
+/// The line that a text is, if it is one, as the first or as a later one. What it sends lies in the room. It fails only
+/// for want of memory.
 #[tactic(auto, unfolding(crate::specs::Grammar::line_of))]
-pub fn line_of(alloc: Global, first: bool, text: &[u8]) -> Result<Option<Line>, AllocError>
+pub fn line_of<'a>(
+    first: bool,
+    text: &[u8],
+    room: &'a mut Vec<u8>,
+) -> Result<Option<Line<'a>>, AllocError>
     ensures { IfOk result (λ line. line ≡ line_of_text first text.now) }
 {
-    if text == b"end".as_slice() {
-        Ok(Some(Line::End))
-    } else if text == b"turn 4".as_slice() {
-        Ok(Some(Line::Go(Event::Turn)))
-    } else if text == b"pump 4".as_slice() {
-        Ok(Some(Line::Go(Event::Pump)))
-    } else {
-        longer_line(alloc, first, text)
+    match text.split_first_chunk::<6>() {
+        Some((b"bytes ", rest)) => bytes_rest(rest, room),
+        _ => Ok(other_line(first, text)),
     }
 }
 
@@ -125,12 +155,14 @@ pub fn grammar_law()
 #[cfg(test)]
 mod tests {
     use super::*;
+    use std::alloc::Global;
     use std::test::Fail;
 
     // Whether the text is a line in which this connection sends these bytes, as the first and as a later one.
     fn sends(alloc: Global, text: &[u8], conn: u32, bytes: &[u8]) -> Result<bool, AllocError> {
+        let mut room = Vec::new(alloc);
         for first in [true, false] {
-            match line_of(alloc, first, text)? {
+            match line_of(first, text, &mut room)? {
                 Some(
                     Line::Go(
                         Event::Bytes {
@@ -147,7 +179,8 @@ mod tests {
 
     // Whether the text is no line, neither as the first nor as a later one.
     fn is_refused(alloc: Global, text: &[u8]) -> Result<bool, AllocError> {
-        Ok(line_of(alloc, true, text)?.is_none() && line_of(alloc, false, text)?.is_none())
+        let mut room = Vec::new(alloc);
+        Ok(line_of(true, text, &mut room)?.is_none() && line_of(false, text, &mut room)?.is_none())
     }
 
     #[test]
@@ -177,26 +210,27 @@ mod tests {
     #[test]
     fn reads_the_other_lines(rt: HostRuntime) -> Result<(), Fail> {
         let alloc = rt.alloc();
+        let mut room = Vec::new(alloc);
         assert!(rt;
             matches!(
-                line_of(alloc, true, b"file data")?,
+                line_of(true, b"file data", &mut room)?,
                 Some(Line::Go(Event::MakeFile))
             )
         );
         for first in [true, false] {
             assert!(rt;
                 matches!(
-                    line_of(alloc, first, b"turn 4")?,
+                    line_of(first, b"turn 4", &mut room)?,
                     Some(Line::Go(Event::Turn))
                 )
             );
             assert!(rt;
                 matches!(
-                    line_of(alloc, first, b"pump 4")?,
+                    line_of(first, b"pump 4", &mut room)?,
                     Some(Line::Go(Event::Pump))
                 )
             );
-            assert!(rt; matches!(line_of(alloc, first, b"end")?, Some(Line::End)));
+            assert!(rt; matches!(line_of(first, b"end", &mut room)?, Some(Line::End)));
         }
         Ok(())
     }
@@ -204,7 +238,8 @@ mod tests {
     #[test]
     fn refuses_other_lines(rt: HostRuntime) -> Result<(), Fail> {
         let alloc = rt.alloc();
-        assert!(rt; line_of(alloc, false, b"file a")?.is_none());
+        let mut room = Vec::new(alloc);
+        assert!(rt; line_of(false, b"file a", &mut room)?.is_none());
         assert!(rt; is_refused(alloc, b"file .")?);
         assert!(rt; is_refused(alloc, b"file ..")?);
         assert!(rt; is_refused(alloc, b"file ")?);
@@ -223,9 +258,10 @@ mod tests {
     #[test]
     fn counts_the_bytes_of_a_name(rt: HostRuntime) -> Result<(), Fail> {
         let alloc = rt.alloc();
+        let mut room = Vec::new(alloc);
         let mut text = Vec::from_slice(alloc, b"file ")?;
         text.extend_from_slice(&[b'a'; 255])?;
-        assert!(rt; line_of(alloc, true, &text)?.is_some());
+        assert!(rt; line_of(true, &text, &mut room)?.is_some());
         text.push(b'a')?;
         assert!(rt; is_refused(alloc, &text)?);
         Ok(())

@@ -60,7 +60,7 @@ fn one_event<K: Sink, C: Cluster>(
     requires stands { Stands C.File.tells gateway.old.front.in_tree (C.at cluster.old body_id) gateway.old.kept.opened }
     requires ready { IsReady event gateway.old.front.in_tree }
     requires few { gateway.old.kept.noted.event < 2 ^ 64 - 1 }
-    ensures moves { (left : Option (List ℕ)) → IsEventTurn C.File.tells result event gateway.old gateway.new
+    ensures moves { (left : Option (List ℕ)) → IsEventTurn C.File.tells result event.entry gateway.old gateway.new
         (record { left = left; held = K.held sink.old; body = body_at (C.at cluster.old body_id) gateway.old.kept.opened; faults = faults_at (C.count cluster.old) gateway.old.kept.opened })
         (record { left = left; held = K.held sink.new; body = body_at (C.at cluster.new body_id) gateway.new.kept.opened; faults = faults_at (C.count cluster.new) gateway.new.kept.opened }) }
     ensures event { gateway.new.kept.noted.event ≤ gateway.old.kept.noted.event + 1 }
@@ -85,9 +85,9 @@ fn one_event<K: Sink, C: Cluster>(
 
 /// Reads and does one line, after `before` others.
 fn one_line<S: Source, K: Sink, C: Cluster>(
-    alloc: Global,
     before: u64,
     lines: &mut Lines,
+    room: &mut Vec<u8>,
     gateway: &mut Gateway<C>,
     source: &mut S,
     sink: &mut K,
@@ -112,7 +112,7 @@ fn one_line<S: Source, K: Sink, C: Cluster>(
     ensures store_cause { result ≡ Turn.StoreFault → Rose (faults_at (C.count cluster.old) gateway.old.kept.opened) (faults_at (C.count cluster.new) gateway.new.kept.opened) }
 {
     match lines.next(source) {
-        Next::Line => match line_of(alloc, before == 0, lines.line()) {
+        Next::Line => match line_of(before == 0, lines.line(), room) {
             Ok(Some(Line::Go(event))) => one_event(event, gateway, sink, cluster),
             Ok(Some(Line::End)) => Turn::Ended,
             Ok(None) => Turn::Bad,
@@ -148,8 +148,11 @@ fn all_lines<S: Source, K: Sink, C: Cluster>(
     ensures store_cause { result.turn ≡ Turn.StoreFault → Rose (C.count cluster.old) (faults_at (C.count cluster.new) gateway.new.kept.opened) }
 {
     let mut lines = Lines::new(alloc);
+    let mut room = Vec::new(alloc);
     for before in 0..MAX_LINES {
-        match one_line(alloc, before, &mut lines, gateway, source, sink, cluster) {
+        match one_line(
+            before, &mut lines, &mut room, gateway, source, sink, cluster,
+        ) {
             Turn::More => {}
             turn => return Ending {
                 turn,

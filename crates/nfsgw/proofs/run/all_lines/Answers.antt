@@ -5,6 +5,7 @@ use Rattle.append_store.specs.State.{bytes_of}
 use Rattle.transcript.specs.Script.{max_lines}
 use Rattle.nfsgw.specs.Outside.{body_id}
 use Rattle.nfsgw.proofs.Runs.{reached_start, reached_more, reached_end, reached_late}
+use Rattle.nfsgw.proofs.Ready.{stands_safe}
 use Rattle.nfsgw.proofs.run.all_lines.Goals as goal
 
 pub loop-before-init : goal.loop-before-init
@@ -56,3 +57,6 @@ returns-clause-moves g c =
     let late : c.loop-before.before ≡ max_lines = omega arith in
     let r = rw late at c.loop-before.invariant.reached in
     reached_late g.C.File.AppendFile.tells _ _ _ refl r
+
+pub returns-clause-safe : goal.returns-clause-safe
+returns-clause-safe g c = stands_safe g.C.File.AppendFile.tells _ _ _ c.loop-before.invariant.stands

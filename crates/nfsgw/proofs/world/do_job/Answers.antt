@@ -1,7 +1,6 @@
-use Rattle.std.proofs.Common.{◌≡◌, ◌∙◌, ap, sym}
-use Rattle.gw_model.specs.Views.{Noted}
+use Rattle.std.proofs.Common.{◌∙◌, ap, sym}
 use Rattle.nfsgw.specs.Answering.{noted_by}
-use Rattle.nfsgw.proofs.Jobs.{job_of, job_settings}
+use Rattle.nfsgw.proofs.Jobs.{job_of}
 use Rattle.nfsgw.proofs.world.do_job.Goals as goal
 
 pub returns-then-is_want-clause-job : goal.returns-then-is_want-clause-job

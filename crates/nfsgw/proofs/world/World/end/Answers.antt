@@ -1,4 +1,4 @@
-use Rattle.std.proofs.Common.{◌≡◌, ap, string_bytes}
+use Rattle.std.proofs.Common.{ap, string_bytes}
 use Rattle.tickets.specs.Desk.{DeskState}
 use Rattle.nfsgw.specs.Outside.{Kept}
 use Rattle.nfsgw.proofs.Acting.{step_ok, step_err, ends_step}

@@ -1,4 +1,4 @@
-use Rattle.std.proofs.Common.{◌≡◌, ◌∙◌, refl, sym, ap, rules, arith}
+use Rattle.std.proofs.Common.{refl, ap, rules, arith}
 use Rattle.gw_outside.specs.Causes.{Rose}
 use Rattle.gw_model.specs.Views.{Noted}
 use Rattle.nfsgw.specs.Outside.{Kept, body_id}

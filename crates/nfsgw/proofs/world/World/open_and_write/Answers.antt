@@ -1,4 +1,4 @@
-use Rattle.std.proofs.Common.{◌≡◌, [], ◌∷◌, false, None, inr, refl, sym, ◌∙◌, ap, subst, arith}
+use Rattle.std.proofs.Common.{◌≡◌, [], ◌∷◌, inr, refl, sym, ◌∙◌, ap, subst, arith}
 use Rattle.gw_model.specs.Ahead.{Good}
 use Rattle.append_store.specs.State.{Kept, Lent, IsThere, bytes_of}
 use Rattle.admit.specs.Answers.{body_of}
@@ -11,7 +11,7 @@ use Rattle.nfsgw.specs.Opening.{Fails}
 use Rattle.nfsgw.specs.Outside as outside
 use Rattle.nfsgw.specs.Outside.{body_id}
 use Rattle.nfsgw.specs.declared.opening.Failure.TheVariants.{Memory}
-use Rattle.nfsgw.proofs.Acting.{told_plain, told_ready, told_file, not_want}
+use Rattle.nfsgw.proofs.Acting.{told_ready, told_file, not_want}
 use Rattle.nfsgw.proofs.Opens.{unopened, unwritten, opening_step, of_answer, noting}
 use Rattle.nfsgw.proofs.world.World.open_and_write.Goals as goal
 

@@ -1,4 +1,4 @@
-use Rattle.std.proofs.Common.{◌≡◌, Some, [], ◌++◌, refl, sym, ◌∙◌, ap, string_bytes}
+use Rattle.std.proofs.Common.{◌++◌, ◌∙◌, ap, string_bytes}
 use Rattle.nfsgw.specs.Acts.{Pumps}
 use Rattle.nfsgw.specs.World.{send}
 use Rattle.nfsgw.specs.Outside.{Kept}

@@ -1,4 +1,4 @@
-use Rattle.std.proofs.Common.{◌≡◌, refl, sym, ◌∙◌, ap, string_bytes}
+use Rattle.std.proofs.Common.{refl, string_bytes}
 use Rattle.nfsgw.specs.Outside.{Kept, body_id}
 use Rattle.nfsgw.proofs.Acting.{always_err, breaks_room, step_ok, step_err, read_step, stored_step}
 use Rattle.nfsgw.proofs.world.World.read.Goals as goal

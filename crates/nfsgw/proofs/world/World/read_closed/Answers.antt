@@ -1,4 +1,4 @@
-use Rattle.std.proofs.Common.{◌≡◌, refl, sym, ◌∙◌, ap}
+use Rattle.std.proofs.Common.{◌∙◌, ap}
 use Rattle.append_store.specs.State.{bytes_of}
 use Rattle.admit.specs.Answers.{body_of}
 use Rattle.nfsgw.specs.Answering.{refusing}

@@ -1,4 +1,4 @@
-use Rattle.std.proofs.Common.{◌≡◌, string_bytes}
+use Rattle.std.proofs.Common.{string_bytes}
 use Rattle.nfsgw.proofs.Acting.{always_err, breaks_room, step_ok, step_err, refuses}
 use Rattle.nfsgw.proofs.world.World.refuse_request.Goals as goal
 

@@ -1,4 +1,4 @@
-use Rattle.std.proofs.Common.{◌≡◌, ◌∙◌, refl, ap, string_bytes}
+use Rattle.std.proofs.Common.{refl, string_bytes}
 use Rattle.nfsgw.proofs.Acting.{always_err, breaks_room, step_ok, step_err, refuses, said_step}
 use Rattle.nfsgw.proofs.world.World.say.Goals as goal
 

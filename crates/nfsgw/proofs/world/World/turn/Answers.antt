@@ -1,10 +1,9 @@
-use Rattle.std.proofs.Common.{◌≡◌, Some, [], ◌++◌, refl, sym, ◌∙◌, ap, string_bytes}
+use Rattle.std.proofs.Common.{◌≡◌, ◌∙◌, ap, string_bytes}
 use Rattle.gw_model.specs.Views.{Noted, next_event}
 use Rattle.nfsgw.specs.Acts.{Turns}
 use Rattle.nfsgw.specs.World.{send}
 use Rattle.nfsgw.specs.Outside.{Kept}
-use Rattle.nfsgw.specs.Answering.{firsts}
-use Rattle.nfsgw.proofs.Jobs.{turn_step, turned, closed_turn, begun_cut, all_text, sent_desk, sent_ok, sent_err, on_ok}
+use Rattle.nfsgw.proofs.Jobs.{turn_step, closed_turn, begun_cut, all_text, sent_desk, sent_ok, sent_err, on_ok}
 use Rattle.nfsgw.proofs.world.World.turn.Goals as goal
 
 pub returns-then-is_err-clause-err : goal.returns-then-is_err-clause-err
