@@ -33,8 +33,9 @@ pub fn take_link(
     if let Some(link) = links.get_mut(&conn) {
         return Ok(mem::replace(link, Link::Closed));
     }
+    let stream = Stream::new(alloc)?;
     match links.insert(conn, Link::Closed) {
-        Ok(_) => Ok(Link::Open(Stream::new(alloc))),
+        Ok(_) => Ok(Link::Open(stream)),
         Err(_) => Err(AllocError),
     }
 }

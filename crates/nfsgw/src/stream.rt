@@ -1,6 +1,6 @@
 // The bytes of a connection, cut into records.
 ghost use Rattle.std.specs.Prelude.{◌≡◌, [], ◌++◌, IfOk, OnErr};
-ghost use Rattle.nfsgw.specs.Streams.{IsHeard};
+ghost use Rattle.nfsgw.specs.Streams.{IsAtRest, IsHeard};
 
 use bytes::Bytes;
 use rpc_record::{Assembler, FrameFault};
@@ -21,29 +21,52 @@ pub enum Heard {
 /// A stream of records (RFC 5531 section 11), of which the bytes since the last whole one are kept.
 #[derive(Drop)]
 pub struct Stream {
-    assembler: Assembler,
+    // In a box, since a stream is taken out of its map and given back for each piece.
+    assembler: Box<Assembler>,
 }
 
 impl Model for Stream {
-    ghost use Rattle.std.specs.Prelude.{◌≡◌, ℕ, List, None};
-    ghost use Rattle.rpc_record.specs.Records.{Open, front};
+    ghost use Rattle.std.specs.Prelude.{ℕ, List};
+    ghost use Rattle.nfsgw.specs.Streams.{IsAtRest};
 
     ghost Value = { List ℕ };
 
-    ghost view = { λ s. s.assembler.held };
+    ghost view = { λ s. s.assembler.value.held };
 
-    ghost invariant = { λ s. (s.assembler.ready ≡ None) × (s.assembler.fault ≡ None) × (front s.assembler.held ≡ Open) };
+    ghost invariant = { λ s. IsAtRest s.assembler.value };
+}
+
+// Has an assembler take bytes of a piece. After a fault it is one at the start of a stream.
+#[tactic(auto, using(rpc_record::proofs::Fronts::front_empty))]
+fn assemble(assembler: &mut Assembler, alloc: Global, piece: &[u8]) -> Result<Heard, AllocError>
+    requires rest { IsAtRest assembler.old }
+    ensures ok { IfOk result (λ heard. IsHeard heard assembler.old.held piece.now assembler.new.held) }
+    ensures rest { IsAtRest assembler.new }
+    ensures err { OnErr result (assembler.new ≡ assembler.old) }
+{
+    match assembler.feed(piece) {
+        Ok(taken) => match assembler.next() {
+            Some(message) => Ok(Heard::Record { taken, message }),
+            None => Ok(Heard::More),
+        },
+        Err(fault) => {
+            if fault == FrameFault::Memory {
+                return Err(AllocError);
+            }
+            *assembler = Assembler::new(alloc);
+            Ok(Heard::Broken)
+        }
+    }
 }
 
 impl Stream {
-    /// A stream at its start.
+    /// A stream at its start. Takes memory.
     #[tactic(auto, using(rpc_record::proofs::Fronts::front_empty))]
-    pub fn new(alloc: Global) -> Stream
-        ensures { result ≡ [] }
+    pub fn new(alloc: Global) -> Result<Stream, AllocError>
+        ensures { IfOk result (λ stream. stream ≡ []) }
     {
-        Stream {
-            assembler: Assembler::new(alloc),
-        }
+        let assembler = Box::new(alloc, Assembler::new(alloc))?;
+        Ok(Stream { assembler })
     }
 
     /// Takes bytes of a piece: all of it, or up to the end of a record, which is given. After a fault the stream is at a
@@ -52,18 +75,6 @@ impl Stream {
         ensures ok { IfOk result (λ heard. IsHeard heard self.old piece.now self.new) }
         ensures err { OnErr result (self.new ≡ self.old) }
     {
-        match self.assembler.feed(piece) {
-            Ok(taken) => match self.assembler.next() {
-                Some(message) => Ok(Heard::Record { taken, message }),
-                None => Ok(Heard::More),
-            },
-            Err(fault) => {
-                if fault == FrameFault::Memory {
-                    return Err(AllocError);
-                }
-                self.assembler = Assembler::new(alloc);
-                Ok(Heard::Broken)
-            }
-        }
+        assemble(&mut self.assembler, alloc, piece)
     }
 }
