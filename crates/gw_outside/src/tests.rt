@@ -1,3 +1,6 @@
+ghost use Rattle.std.specs.Prelude.{Some};
+ghost use Rattle.gw_outside.specs.Memory.{sink_count};
+
 use super::*;
 use std::test::Fail;
 
@@ -53,5 +56,53 @@ fn the_adapters(rt: HostRuntime) -> Result<(), Fail> {
     assert_eq!(rt; sink.write(b"zw"), Ok(1));
     assert_eq!(rt; sink.write(b"w"), Err(WriteFault));
     assert_eq!(rt; sink.faults(), 1);
+    Ok(())
+}
+
+/// Takes two bytes a write.
+#[derive(Drop)]
+struct Sip {
+    inner: MemSink,
+}
+
+impl Sink for Sip {
+    ghost held = { λ s. Some s.inner.held };
+
+    ghost count = { λ s. sink_count s.inner };
+
+    fn write(&mut self, bytes: &[u8]) -> Result<usize, WriteFault> {
+        let part = bytes.len().min(2);
+        self.inner.write(&bytes[..part])
+    }
+
+    fn faults(&self) -> u64 {
+        self.inner.faults()
+    }
+}
+
+#[test]
+fn writes_in_parts(rt: HostRuntime) -> Result<(), Fail> {
+    let alloc = rt.alloc();
+    let mut sink = Sip {
+        inner: MemSink::new(alloc, Vec::new(alloc)),
+    };
+    assert_eq!(rt; write_all(&mut sink, b"closed 7\n"), Ok(()));
+    assert_eq!(rt; sink.inner.bytes(), b"closed 7\n".as_slice());
+    let mut sink = Sip {
+        inner: MemSink::new(alloc, Vec::from_slice(alloc, &[3])?),
+    };
+    assert_eq!(rt; write_all(&mut sink, b"closed 7\n"), Err(WriteFault));
+    assert_eq!(rt; sink.inner.bytes(), b"clos".as_slice());
+    Ok(())
+}
+
+#[test]
+fn a_tally_of_calls(rt: HostRuntime) -> Result<(), Fail> {
+    let mut tally = Tally::new();
+    tally.count(false);
+    tally.count(true);
+    let other = tally;
+    tally.join(other);
+    assert_eq!(rt; tally, Tally { made: 4, failed: 2 });
     Ok(())
 }
