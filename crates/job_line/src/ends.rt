@@ -27,14 +27,14 @@ pub struct LineOut {
 
 impl LineIn {
     ghost use Rattle.std.specs.Prelude.{◌+◌, ◌<◌, [], ◌∷◌, ◌++◌, IsOk, IfErr, OnErr, OnOk};
-    ghost use Rattle.job_line.specs.Items.{Fits};
-    ghost use Rattle.job_line.specs.Ends.{jobs_sent, base_sent, free_slots, SameContextIn};
+    ghost use Rattle.job_line.specs.Items.{MayFollow};
+    ghost use Rattle.job_line.specs.Ends.{jobs_sent, base_sent, free_slots, line_slots, SameContextIn};
 
     /// Sends a job, or hands it back where no free slot was known, and then sends nothing. It looks anew for free slots.
     /// Takes no memory.
     #[tactic(auto, using(crate::proofs::Lists::one_more))]
     pub fn send(&mut self, job: Job) -> Result<(), Job>
-        requires { Fits (base_sent self.old) (jobs_sent self.old) job }
+        requires { MayFollow (base_sent self.old) (jobs_sent self.old) job }
         ensures same { SameContextIn self.old self.new }
         ensures sent { OnOk result (jobs_sent self.new ≡ jobs_sent self.old ++ job ∷ []) }
         ensures free { OnOk result (free_slots self.old ≤ free_slots self.new + 1) }
@@ -51,6 +51,23 @@ impl LineIn {
         Ok(())
     }
 
+    /// Looks anew for free slots, and gives how many there are. Takes no memory.
+    pub fn look(&mut self) -> usize
+        ensures same { SameContextIn self.old self.new }
+        ensures sent { jobs_sent self.new ≡ jobs_sent self.old }
+        ensures free { result ≡ free_slots self.new }
+        ensures more { free_slots self.old ≤ free_slots self.new }
+    {
+        self.producer.slots()
+    }
+
+    /// How many slots the line has.
+    pub fn slots(&self) -> usize
+        ensures { result ≡ line_slots self.now }
+    {
+        self.producer.capacity()
+    }
+
     /// How many marks this end has sent.
     pub fn begun(&self) -> u64
         ensures { result ≡ self.now.begun }
@@ -62,7 +79,7 @@ impl LineIn {
 impl LineOut {
     ghost use Rattle.std.specs.Prelude.{◌<◌, [], ◌∷◌, ◌++◌, length, drop, slice_get, IsSome, IfSome, IfNone};
     ghost use mathlib.Core.List.{IsPrefix};
-    ghost use Rattle.job_line.specs.Items.{Fits};
+    ghost use Rattle.job_line.specs.Items.{MayFollow};
     ghost use Rattle.job_line.specs.Ends.{jobs_taken, base_taken, jobs_known, SameContextOut};
 
     /// Takes the next job sent, or none where none was known. It looks anew for jobs. Takes no memory.
@@ -70,7 +87,7 @@ impl LineOut {
     pub fn take(&mut self) -> Option<Job>
         ensures same { SameContextOut self.old self.new }
         ensures taken { IfSome result (λ job. jobs_taken self.new ≡ jobs_taken self.old ++ job ∷ []) }
-        ensures fits { IfSome result (λ job. Fits (base_taken self.old) (jobs_taken self.old) job) }
+        ensures fits { IfSome result (λ job. MayFollow (base_taken self.old) (jobs_taken self.old) job) }
         ensures untaken { IfNone result (jobs_taken self.new ≡ jobs_taken self.old) }
 
         // Jobs that were known come in their order, and stay known until they are taken.
