@@ -1,5 +1,5 @@
 -- What the calls of a store do to one object.
-use Rattle.std.specs.Prelude.{◌≡◌, ◌⊎◌, ℕ, ◌≤◌, List, [], ◌∷◌, length, map, take, drop, Result, Ok, Err}
+use Rattle.std.specs.Prelude.{◌≡◌, ◌⊎◌, ℕ, ◌≤◌, List, [], ◌∷◌, length, map, take, drop, Bool, true, false, Result, Ok, Err}
 use Rattle.std.specs.List.{AllByRecursion}
 use Rattle.std.specs.List.Sorted.{IsStrictlySortedBy}
 use Rattle.std.specs.declared.cmp.Ordering.{Ordering}
@@ -7,7 +7,13 @@ use Rattle.gw_model.specs.declared.object.KeptObject.{KeptObject}
 use Rattle.gw_model.specs.declared.object.ObjectId.{ObjectId}
 use Rattle.gw_model.specs.contracts.object.ObjectIdOrd.TheImpl as object_order
 use Rattle.append_store.specs.State.{ObjectState, Missing, Kept, Lent, IsThere, durable_of}
+use Rattle.gw_outside.specs.Tally.{one_call}
+use Rattle.gw_outside.specs.declared.tally.Tally.{Tally}
 use Rattle.append_store.specs.declared.store.AppendFault.{AppendFault}
+use Rattle.append_store.specs.declared.store.CreateFault.{CreateFault}
+use Rattle.append_store.specs.declared.store.CreateFault.TheVariants as create_fault
+use Rattle.append_store.specs.declared.store.ListFault.{ListFault}
+use Rattle.append_store.specs.declared.store.ListFault.TheVariants as list_fault
 
 -- an object that is there stays as it is, and one that isn't comes to be, empty
 abbrev pub Creates : ObjectState → ObjectState → Type 0
@@ -55,3 +61,15 @@ Has (k ∷ ks) q = (k.object ≡ q) ⊎ Has ks q
 pub record Lists (at : ObjectId → ObjectState) (all : List KeptObject) : Type 0 where
   pub sound : AllByRecursion (λ k. HasLength (at k.object) k.length) all
   pub complete : (q : ObjectId) → IsThere (at q) → Has all q
+
+-- a creation is counted, but one that was refused memory
+abbrev pub creation_tally : {T : Type 0} → Result T CreateFault → Tally → Tally
+creation_tally (Ok x) t = one_call false t
+creation_tally (Err create_fault.Fault) t = one_call true t
+creation_tally (Err create_fault.Memory) t = t
+
+-- a listing is counted, but one that was refused memory
+abbrev pub listing_tally : {T : Type 0} → Result T ListFault → Tally → Tally
+listing_tally (Ok x) t = one_call false t
+listing_tally (Err list_fault.Fault) t = one_call true t
+listing_tally (Err list_fault.Memory) t = t

@@ -2,6 +2,8 @@
 use Rattle.std.specs.Prelude.{◌≡◌, ◌⊎◌, ◌+◌, ◌-◌, ◌^◌, min, ℕ, Bool, true, false, List, [], length, take, Option, Some, None, is_some, is_err, Result, Ok, Err}
 use Rattle.gw_model.specs.declared.object.ObjectId.{ObjectId}
 use Rattle.gw_outside.specs.Causes.{raised, count_after}
+use Rattle.gw_outside.specs.Tally.{no_calls, one_call}
+use Rattle.gw_outside.specs.declared.tally.Tally.{Tally}
 use Rattle.append_store.specs.Plan.{due_of}
 use Rattle.append_store.specs.State.{kept_length}
 use Rattle.append_store.specs.declared.mem_file.MemFile.{MemFile}
@@ -9,7 +11,8 @@ use Rattle.append_store.specs.declared.mem_file.Planned.{Planned}
 use Rattle.append_store.specs.declared.store.AppendFault.{AppendFault}
 
 -- the object and its bytes, how many of them are durable, the calls of the object that are to
--- fail, how many of its calls were counted, and the two numbers of faults
+-- fail, how many of its calls were counted, the two numbers of faults, and the calls since it was
+-- taken
 pub record FileState : Type 0 where
   pub object : ObjectId
   pub content : List ℕ
@@ -18,9 +21,19 @@ pub record FileState : Type 0 where
   pub calls : ℕ
   pub planned : ℕ
   pub starved : ℕ
+  pub tally : Tally
 
 abbrev pub shown : MemFile → FileState
-shown f = record { object = f.object; content = f.bytes.items; durable = f.durable; plan = f.plan.items; calls = f.calls; planned = f.planned; starved = f.starved }
+shown f = record {
+  object = f.object;
+  content = f.bytes.items;
+  durable = f.durable;
+  plan = f.plan.items;
+  calls = f.calls;
+  planned = f.planned;
+  starved = f.starved;
+  tally = f.tally;
+}
 
 -- the faults of a file in memory: both numbers together, up to the greatest u64
 abbrev pub file_count : FileState → ℕ
@@ -48,7 +61,7 @@ pub record AppendsAsPlanned {T : Type 0} (old new : FileState) (size : ℕ) (res
 
 -- the file after a counted call that changed nothing else
 abbrev pub counted_call : FileState → Bool → FileState
-counted_call f failed = record f { calls = raised f.calls; planned = count_after f.planned failed }
+counted_call f failed = record f { calls = raised f.calls; planned = count_after f.planned failed; tally = one_call failed f.tally }
 
 -- the file after a counted hsync
 abbrev pub synced_file : FileState → Bool → FileState
@@ -75,6 +88,7 @@ pub record IsDue (old new : MemFile) (kept : Option ℕ) : Type 0 where
   pub due : kept ≡ next_due (shown old)
   pub planned : new.planned ≡ count_after old.planned (is_some kept)
   pub starved : new.starved ≡ old.starved
+  pub tally : new.tally ≡ old.tally
 
 -- nothing is there, and no call was counted
 pub record IsFresh (file : FileState) (entries : List Planned) : Type 0 where
@@ -97,6 +111,7 @@ pub record IsHandedOut (old new : FileState) (name : ObjectId) : Type 0 where
   pub calls : new.calls ≡ old.calls
   pub planned : new.planned ≡ 0
   pub starved : new.starved ≡ 0
+  pub tally : new.tally ≡ no_calls
 
 -- the file after a crash that kept so many bytes more than were durable
 abbrev pub cut_file : ℕ → FileState → FileState

@@ -3,6 +3,7 @@ use Rattle.std.specs.Prelude.{◌≡◌, ◌+◌, ◌-◌, ◌^◌, ℕ, Bool, t
 use Rattle.gw_model.specs.declared.object.KeptObject.{KeptObject}
 use Rattle.gw_model.specs.declared.object.ObjectId.{ObjectId}
 use Rattle.gw_outside.specs.Causes.{raised}
+use Rattle.gw_outside.specs.Tally.{no_calls}
 use Rattle.append_store.specs.Plan.{plan_for, due_of}
 use Rattle.append_store.specs.Calls.{Creates}
 use Rattle.append_store.specs.State.{ObjectState, Missing, Kept, Lent, IsCrashImage, cut_state}
@@ -25,7 +26,7 @@ pub record Slot : Type 0 where
 abbrev pub spot_slot : ObjectId → Spot → ℕ → Slot
 spot_slot object (Gone f) losses = record { state = Missing; losses = losses; calls = f.calls; plan = f.plan.items }
 spot_slot object (Here f) losses = record { state = Kept f.bytes.items f.durable; losses = losses; calls = f.calls; plan = f.plan.items }
-spot_slot object Out losses = record { state = Lent object; losses = losses; calls = 0; plan = [] }
+spot_slot object Out losses = record { state = Lent (object ∷ []); losses = losses; calls = 0; plan = [] }
 
 abbrev pub entry_slot : ObjectId → Entry → Slot
 entry_slot object entry = spot_slot object entry.spot entry.losses
@@ -76,9 +77,10 @@ pub record IsTakenOf (old : Slot) (name : ObjectId) (file : FileState) : Type 0 
   pub calls : file.calls ≡ raised old.calls
   pub planned : file.planned ≡ 0
   pub starved : file.starved ≡ 0
+  pub tally : file.tally ≡ no_calls
 
 pub record IsOut (old new : Slot) (name : ObjectId) : Type 0 where
-  pub state : new.state ≡ Lent name
+  pub state : new.state ≡ Lent (name ∷ [])
   pub losses : new.losses ≡ old.losses
 
 -- the call was counted, and nothing else changed

@@ -9,7 +9,7 @@ pub data ObjectState : Type 0 where
   -- bytes, so many of which are durable: kept over a crash
   Kept : List ℕ → ℕ → ObjectState
   -- the file is out, and tells its bytes itself; the mark of that file
-  Lent : ObjectId → ObjectState
+  Lent : List ObjectId → ObjectState
 
 -- the object is there and isn't out
 abbrev pub IsThere : ObjectState → Type 0

@@ -2,9 +2,11 @@
 use Rattle.std.specs.Prelude.{◌≡◌, ◌+◌, ◌-◌, ◌^◌, min, ℕ, Bool, true, false, List, is_some, is_err, OnErr, IsSome, IsNone, Option, Some, None, Result, Ok, Err}
 use Rattle.gw_model.specs.declared.object.ObjectId.{ObjectId}
 use Rattle.gw_outside.specs.Causes.{raised, count_after}
+use Rattle.gw_outside.specs.Tally.{no_calls}
+use Rattle.gw_outside.specs.declared.tally.Tally.{Tally}
 use Rattle.append_store.specs.Plan.{plan_for, names_store_call}
 use Rattle.append_store.specs.Calls.{object_cmp}
-use Rattle.append_store.specs.State.{Missing}
+use Rattle.append_store.specs.State.{ObjectState, Missing}
 use Rattle.append_store.specs.File.{FileState}
 use Rattle.std.specs.BTreeMap.{get}
 use Rattle.append_store.specs.Slots.{Slot, slot_due, slot_of, OnlyCounts, CountsCreate, IsDeleted, cut_slot}
@@ -16,23 +18,37 @@ use Rattle.append_store.specs.declared.store.ListFault.{ListFault}
 use Rattle.append_store.specs.declared.store.ListFault.TheVariants.{Fault as ListFails, Memory as ListStarves}
 
 -- what is kept under each name, the calls that are to fail, how many calls on the store as a whole
--- were counted, and the two numbers of faults
+-- were counted, the two numbers of faults, and the calls that were made
 pub record StoreState : Type 0 where
   pub slots : ObjectId → Slot
   pub failing : List Planned
   pub calls : ℕ
   pub planned : ℕ
   pub starved : ℕ
+  pub tally : Tally
 
 abbrev pub store_of : MemCluster → StoreState
-store_of c = record { slots = λ q. slot_of c.failing.items q (get object_cmp c.entries q); failing = c.failing.items; calls = c.calls; planned = c.planned; starved = c.starved }
+store_of c = record {
+  slots = λ q. slot_of c.failing.items q (get object_cmp c.entries q);
+  failing = c.failing.items;
+  calls = c.calls;
+  planned = c.planned;
+  starved = c.starved;
+  tally = c.tally;
+}
 
 abbrev pub slot_at : MemCluster → ObjectId → Slot
 slot_at c q = (store_of c).slots q
 
+abbrev pub state_at : MemCluster → ObjectId → ObjectState
+state_at c q = (slot_at c q).state
+
+abbrev pub losses_at : MemCluster → ObjectId → ℕ
+losses_at c q = (slot_at c q).losses
+
 -- the faults of a store in memory: both numbers together, up to the greatest u64
-abbrev pub store_count : StoreState → ℕ
-store_count s = min (s.planned + s.starved) (2 ^ 64 - 1)
+abbrev pub store_count : MemCluster → ℕ
+store_count c = min (c.planned + c.starved) (2 ^ 64 - 1)
 
 -- nothing is there, and all planned calls are to come
 pub record IsNew (store : StoreState) (entries : List Planned) : Type 0 where
@@ -41,6 +57,7 @@ pub record IsNew (store : StoreState) (entries : List Planned) : Type 0 where
   pub calls : store.calls ≡ 0
   pub planned : store.planned ≡ 0
   pub starved : store.starved ≡ 0
+  pub tally : store.tally ≡ no_calls
 
 -- a create that is named fails; another is done, unless the making of an entry finds no memory
 abbrev pub CreateOutcome : {T : Type 0} → StoreState → StoreState → ObjectId → Result T CreateFault → Type 0

@@ -11,6 +11,8 @@ impl<C: Cluster> Cluster for &mut C {
 
     ghost count = { λ c. C.count c.now };
 
+    ghost tally = { λ c. C.tally c.now };
+
     fn list(&mut self) -> Result<Vec<KeptObject>, ListFault> {
         (**self).list()
     }

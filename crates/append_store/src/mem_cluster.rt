@@ -1,22 +1,24 @@
 // A store in memory, which fails at the calls that it is told to fail at.
-ghost use Rattle.std.specs.Prelude.{◌≡◌, ◌≢◌, ◌⊎◌, ◌++◌, ◌-◌, ◌≤◌, ◌<◌, List, min, length, drop, OnOk, OnErr, IfOk, IsErrOf, None};
+ghost use Rattle.std.specs.Prelude.{[], ◌∷◌, take, ◌≡◌, ◌≢◌, ◌⊎◌, ◌++◌, ◌-◌, ◌≤◌, ◌<◌, List, min, length, drop, OnOk, OnErr, IfOk, IsErrOf, None, is_err};
 ghost use Rattle.std.specs.BTreeMap.{get, IsOrdered};
 ghost use Rattle.std.specs.Option.{option_copied};
 ghost use Rattle.gw_model.specs.declared.object.ObjectId.{ObjectId};
 ghost use Rattle.append_store.specs.declared.mem_file.Planned.{Planned};
 ghost use Rattle.gw_outside.specs.Causes.{HasCause, Rose, Carries};
+ghost use Rattle.gw_outside.specs.Tally.{joined_tally, no_calls, one_call};
 ghost use Rattle.append_store.specs.State.{IsAway, IsCrashImage, IsThere, Kept, Missing, Lent, bytes_of, content_in};
-ghost use Rattle.append_store.specs.Calls.{Creates, MayCreate, Guards, IsRising, Lists, object_cmp, part_at};
+ghost use Rattle.append_store.specs.Calls.{Creates, MayCreate, Guards, IsRising, Lists, creation_tally, listing_tally, object_cmp, part_at};
 ghost use Rattle.append_store.specs.Plan.{is_of, names_store_call, plan_for};
 ghost use Rattle.append_store.specs.File.{file_count, shown};
 ghost use Rattle.append_store.specs.Slots.{CreatesSlot, IsCut, IsTakenOf, IsBackAs, Related, cut_slot, listed, slot_of};
-ghost use Rattle.append_store.specs.Store.{IsNew, CreatesAsPlanned, TakesAsPlanned, ReadsClosedAsPlanned, DeletesAsPlanned, ListsAsPlanned, ReopensAsPlanned, AddsFaults, slot_at, store_count, store_of};
+ghost use Rattle.append_store.specs.Store.{IsNew, CreatesAsPlanned, TakesAsPlanned, ReadsClosedAsPlanned, DeletesAsPlanned, ListsAsPlanned, ReopensAsPlanned, AddsFaults, losses_at, slot_at, state_at, store_count, store_of};
 
 use crate::slots::{
     Deletion, Entry, Spot, bytes_at, create_at, cut_at, delete_at, give_at, read_at, take_at,
 };
 use crate::{Cluster, CreateFault, ListFault, MemFile, Planned, StoreFault};
 use gw_model::{KeptObject, ObjectId};
+use gw_outside::Tally;
 use std::alloc::{AllocError, Global};
 use std::collections::BTreeMap;
 
@@ -33,6 +35,7 @@ pub struct MemCluster {
     calls: u64,
     planned: u64,
     starved: u64,
+    tally: Tally,
 }
 
 // Whether an entry of the plan is for a call of this object.
@@ -158,6 +161,7 @@ impl MemCluster {
             calls: 0,
             planned: 0,
             starved: 0,
+            tally: Tally::new(),
         }
     }
 
@@ -187,29 +191,36 @@ impl MemCluster {
 impl Cluster for MemCluster {
     type File = MemFile;
 
-    ghost at = { λ c q. (slot_at c q).state };
+    ghost at = { state_at };
 
-    ghost losses = { λ c q. (slot_at c q).losses };
+    ghost losses = { losses_at };
 
-    ghost count = { λ c. store_count (store_of c) };
+    ghost count = { store_count };
+
+    ghost tally = { λ c. c.tally };
 
     fn list(&mut self) -> Result<Vec<KeptObject>, ListFault>
-        requires { (q : ObjectId) → IsAway (slot_at self.old q).state → ⊥ }
-        ensures listed { IfOk result (λ all. Lists (λ q. (slot_at self.old q).state) all.items) }
+        requires { (q : ObjectId) → IsAway (state_at self.old q) → ⊥ }
+        ensures listed { IfOk result (λ all. Lists (λ q. state_at self.old q) all.items) }
         ensures rising { IfOk result (λ all. IsRising all.items) }
         ensures same { (q : ObjectId) → slot_at self.new q ≡ slot_at self.old q }
-        ensures no_losses { (q : ObjectId) → (slot_at self.new q).losses ≡ (slot_at self.old q).losses }
-        ensures later { store_count (store_of self.old) ≤ store_count (store_of self.new) }
-        ensures cause { IsErrOf result ListFault.Fault → Rose (store_count (store_of self.old)) (store_count (store_of self.new)) }
+        ensures no_losses { (q : ObjectId) → losses_at self.new q ≡ losses_at self.old q }
+        ensures later { store_count self.old ≤ store_count self.new }
+        ensures counted { self.new.tally ≡ listing_tally result self.old.tally }
+        ensures cause { IsErrOf result ListFault.Fault → Rose (store_count self.old) (store_count self.new) }
         ensures planned { ListsAsPlanned (store_of self.old) (store_of self.new) result }
     {
         self.calls = self.calls.saturating_add(1);
         if names_call(&self.failing, self.calls) {
             self.planned = self.planned.saturating_add(1);
+            self.tally.count(true);
             return Err(ListFault::Fault);
         }
         match list_in(self.alloc, &self.entries) {
-            Ok(all) => Ok(all),
+            Ok(all) => {
+                self.tally.count(false);
+                Ok(all)
+            }
             Err(_) => {
                 self.starved = self.starved.saturating_add(1);
                 Err(ListFault::Memory)
@@ -218,20 +229,26 @@ impl Cluster for MemCluster {
     }
 
     fn create(&mut self, object: ObjectId) -> Result<(), CreateFault>
-        ensures done { OnOk result (Creates (slot_at self.old object).state (slot_at self.new object).state) }
-        ensures failed { OnErr result (MayCreate (slot_at self.old object).state (slot_at self.new object).state) }
+        ensures done { OnOk result (Creates (state_at self.old object) (state_at self.new object)) }
+        ensures failed { OnErr result (MayCreate (state_at self.old object) (state_at self.new object)) }
+        ensures refused { IsErrOf result CreateFault.Memory → state_at self.new object ≡ state_at self.old object }
         ensures others { (q : ObjectId) → q ≢ object → slot_at self.new q ≡ slot_at self.old q }
-        ensures losses { Guards (slot_at self.old object).state (slot_at self.new object).state (slot_at self.old object).losses (slot_at self.new object).losses }
-        ensures losses_there { (slot_at self.old object).state ≢ Missing → (slot_at self.new object).losses ≡ (slot_at self.old object).losses }
-        ensures no_losses { (q : ObjectId) → q ≢ object → (slot_at self.new q).losses ≡ (slot_at self.old q).losses }
-        ensures later { store_count (store_of self.old) ≤ store_count (store_of self.new) }
-        ensures cause { IsErrOf result CreateFault.Fault → Rose (store_count (store_of self.old)) (store_count (store_of self.new)) }
+        ensures losses { Guards (state_at self.old object) (state_at self.new object) (losses_at self.old object) (losses_at self.new object) }
+        ensures losses_there { state_at self.old object ≢ Missing → losses_at self.new object ≡ losses_at self.old object }
+        ensures no_losses { (q : ObjectId) → q ≢ object → losses_at self.new q ≡ losses_at self.old q }
+        ensures later { store_count self.old ≤ store_count self.new }
+        ensures counted { self.new.tally ≡ creation_tally result self.old.tally }
+        ensures cause { IsErrOf result CreateFault.Fault → Rose (store_count self.old) (store_count self.new) }
         ensures planned { CreatesAsPlanned (store_of self.old) (store_of self.new) object result }
     {
         match create_in(self.alloc, &mut self.entries, &self.failing, object) {
-            Ok(true) => Ok(()),
+            Ok(true) => {
+                self.tally.count(false);
+                Ok(())
+            }
             Ok(false) => {
                 self.planned = self.planned.saturating_add(1);
+                self.tally.count(true);
                 Err(CreateFault::Fault)
             }
             Err(_) => {
@@ -242,23 +259,27 @@ impl Cluster for MemCluster {
     }
 
     fn take_file(&mut self, object: ObjectId) -> Result<MemFile, StoreFault>
-        requires { IsThere (slot_at self.old object).state }
-        ensures taken { IfOk result (λ file. (slot_at self.old object).state ≡ Kept (shown file).content (shown file).durable) }
-        ensures out { IfOk result (λ file. (slot_at self.new object).state ≡ Lent (shown file).object) }
+        requires { IsThere (state_at self.old object) }
+        ensures taken { IfOk result (λ file. state_at self.old object ≡ Kept (shown file).content (shown file).durable) }
+        ensures out { IfOk result (λ file. state_at self.new object ≡ Lent ((shown file).object ∷ [])) }
         ensures fresh { IfOk result (λ file. file_count (shown file) ≡ 0) }
-        ensures failed { OnErr result ((slot_at self.new object).state ≡ (slot_at self.old object).state) }
+        ensures no_calls { IfOk result (λ file. (shown file).tally ≡ no_calls) }
+        ensures failed { OnErr result (state_at self.new object ≡ state_at self.old object) }
         ensures others { (q : ObjectId) → q ≢ object → slot_at self.new q ≡ slot_at self.old q }
-        ensures no_losses { (q : ObjectId) → (slot_at self.new q).losses ≡ (slot_at self.old q).losses }
-        ensures cause { HasCause (store_count (store_of self.old)) (store_count (store_of self.new)) result }
+        ensures no_losses { (q : ObjectId) → losses_at self.new q ≡ losses_at self.old q }
+        ensures counted { self.new.tally ≡ one_call (is_err result) self.old.tally }
+        ensures cause { HasCause (store_count self.old) (store_count self.new) result }
         ensures file { IfOk result (λ file. IsTakenOf (slot_at self.old object) object (shown file)) }
         ensures planned { TakesAsPlanned (store_of self.old) (store_of self.new) object result }
     {
         match self.entries.get_mut(&object) {
             Some(entry) => {
                 if let Some(file) = take_at(object, entry) {
+                    self.tally.count(false);
                     return Ok(file);
                 }
                 self.planned = self.planned.saturating_add(1);
+                self.tally.count(true);
                 Err(StoreFault)
             }
             None => unreachable!(),
@@ -266,19 +287,21 @@ impl Cluster for MemCluster {
     }
 
     fn give_file(&mut self, object: ObjectId, file: MemFile)
-        ensures own { (slot_at self.old object).state ≡ Lent (shown file).object → (slot_at self.new object).state ≡ Kept (shown file).content (shown file).durable }
-        ensures own_losses { (slot_at self.old object).state ≡ Lent (shown file).object → (slot_at self.new object).losses ≡ (slot_at self.old object).losses }
-        ensures foreign { (slot_at self.old object).state ≢ Lent (shown file).object → ((slot_at self.new object).state ≡ (slot_at self.old object).state) ⊎ ((slot_at self.old object).losses < (slot_at self.new object).losses) }
-        ensures losses { (slot_at self.old object).losses ≤ (slot_at self.new object).losses }
+        ensures own { state_at self.old object ≡ Lent ((shown file).object ∷ []) → state_at self.new object ≡ Kept (shown file).content (shown file).durable }
+        ensures own_losses { state_at self.old object ≡ Lent ((shown file).object ∷ []) → losses_at self.new object ≡ losses_at self.old object }
+        ensures foreign { state_at self.old object ≢ Lent ((shown file).object ∷ []) → (state_at self.new object ≡ state_at self.old object) ⊎ (losses_at self.old object < losses_at self.new object) }
+        ensures losses { losses_at self.old object ≤ losses_at self.new object }
         ensures others { (q : ObjectId) → q ≢ object → slot_at self.new q ≡ slot_at self.old q }
-        ensures no_losses { (q : ObjectId) → q ≢ object → (slot_at self.new q).losses ≡ (slot_at self.old q).losses }
-        ensures count { Carries (store_count (store_of self.old)) (file_count (shown file)) (store_count (store_of self.new)) }
-        ensures back { (slot_at self.old object).state ≡ Lent (shown file).object → IsBackAs (slot_at self.old object) (slot_at self.new object) (shown file) }
-        ensures let_go { (slot_at self.old object).state ≢ Lent (shown file).object → slot_at self.new object ≡ slot_at self.old object }
+        ensures no_losses { (q : ObjectId) → q ≢ object → losses_at self.new q ≡ losses_at self.old q }
+        ensures counted { self.new.tally ≡ joined_tally self.old.tally (shown file).tally }
+        ensures count { Carries (store_count self.old) (file_count (shown file)) (store_count self.new) }
+        ensures back { state_at self.old object ≡ Lent ((shown file).object ∷ []) → IsBackAs (slot_at self.old object) (slot_at self.new object) (shown file) }
+        ensures let_go { state_at self.old object ≢ Lent ((shown file).object ∷ []) → slot_at self.new object ≡ slot_at self.old object }
         ensures faults { AddsFaults (store_of self.old) (store_of self.new) (shown file) }
     {
         self.planned = self.planned.saturating_add(file.planned());
         self.starved = self.starved.saturating_add(file.starved());
+        self.tally.join(file.tally());
         if let Some(entry) = self.entries.get_mut(&object) {
             give_at(object, entry, file);
         }
@@ -290,22 +313,26 @@ impl Cluster for MemCluster {
         offset: u64,
         out: &mut [u8],
     ) -> Result<usize, StoreFault>
-        requires { IsThere (slot_at self.old object).state }
+        requires { IsThere (state_at self.old object) }
         ensures bound { IfOk result (λ n. n ≤ length out.old) }
-        ensures length { IfOk result (λ n. n ≡ min (length out.old) (length (bytes_of (slot_at self.old object).state) - offset)) }
-        ensures bytes { IfOk result (λ n. out.new ≡ part_at (bytes_of (slot_at self.old object).state) offset n ++ drop n out.old) }
-        ensures same { (q : ObjectId) → (slot_at self.new q).state ≡ (slot_at self.old q).state }
+        ensures length { IfOk result (λ n. n ≡ min (length out.old) (length (bytes_of (state_at self.old object)) - offset)) }
+        ensures bytes { IfOk result (λ n. take n out.new ≡ part_at (bytes_of (state_at self.old object)) offset n) }
+        ensures rest { IfOk result (λ n. out.new ≡ part_at (bytes_of (state_at self.old object)) offset n ++ drop n out.old) }
+        ensures same { (q : ObjectId) → state_at self.new q ≡ state_at self.old q }
         ensures others { (q : ObjectId) → q ≢ object → slot_at self.new q ≡ slot_at self.old q }
-        ensures no_losses { (q : ObjectId) → (slot_at self.new q).losses ≡ (slot_at self.old q).losses }
-        ensures cause { HasCause (store_count (store_of self.old)) (store_count (store_of self.new)) result }
+        ensures no_losses { (q : ObjectId) → losses_at self.new q ≡ losses_at self.old q }
+        ensures counted { self.new.tally ≡ one_call (is_err result) self.old.tally }
+        ensures cause { HasCause (store_count self.old) (store_count self.new) result }
         ensures planned { ReadsClosedAsPlanned (store_of self.old) (store_of self.new) object result }
     {
         match self.entries.get_mut(&object) {
             Some(entry) => {
                 if let Some(many) = read_at(object, entry, offset, out) {
+                    self.tally.count(false);
                     return Ok(many);
                 }
                 self.planned = self.planned.saturating_add(1);
+                self.tally.count(true);
                 Err(StoreFault)
             }
             None => unreachable!(),
@@ -313,24 +340,30 @@ impl Cluster for MemCluster {
     }
 
     fn delete(&mut self, object: ObjectId) -> Result<(), StoreFault>
-        requires { IsThere (slot_at self.old object).state }
-        ensures done { OnOk result ((slot_at self.new object).state ≡ Missing) }
-        ensures failed { OnErr result ((slot_at self.new object).state ≡ (slot_at self.old object).state) }
+        requires { IsThere (state_at self.old object) }
+        ensures done { OnOk result (state_at self.new object ≡ Missing) }
+        ensures failed { OnErr result (state_at self.new object ≡ state_at self.old object) }
         ensures others { (q : ObjectId) → q ≢ object → slot_at self.new q ≡ slot_at self.old q }
-        ensures losses { Guards (slot_at self.old object).state (slot_at self.new object).state (slot_at self.old object).losses (slot_at self.new object).losses }
-        ensures no_losses { (q : ObjectId) → q ≢ object → (slot_at self.new q).losses ≡ (slot_at self.old q).losses }
-        ensures cause { HasCause (store_count (store_of self.old)) (store_count (store_of self.new)) result }
+        ensures losses { Guards (state_at self.old object) (state_at self.new object) (losses_at self.old object) (losses_at self.new object) }
+        ensures no_losses { (q : ObjectId) → q ≢ object → losses_at self.new q ≡ losses_at self.old q }
+        ensures counted { self.new.tally ≡ one_call (is_err result) self.old.tally }
+        ensures cause { HasCause (store_count self.old) (store_count self.new) result }
         ensures planned { DeletesAsPlanned (store_of self.old) (store_of self.new) object result }
     {
         match self.entries.get_mut(&object) {
             Some(entry) => match delete_at(object, entry) {
-                Deletion::Done => Ok(()),
+                Deletion::Done => {
+                    self.tally.count(false);
+                    Ok(())
+                }
                 Deletion::Planned => {
                     self.planned = self.planned.saturating_add(1);
+                    self.tally.count(true);
                     Err(StoreFault)
                 }
                 Deletion::Full => {
                     self.starved = self.starved.saturating_add(1);
+                    self.tally.count(true);
                     Err(StoreFault)
                 }
             },
@@ -340,19 +373,22 @@ impl Cluster for MemCluster {
 
     /// Keeps of each object the lesser of its length and `pick` bytes more than were durable.
     fn reopen(&mut self, pick: u64) -> Result<(), StoreFault>
-        requires { (q : ObjectId) → IsAway (slot_at self.old q).state → ⊥ }
-        ensures done { OnOk result ((q : ObjectId) → IsCrashImage (slot_at self.old q).state (slot_at self.new q).state) }
+        requires { (q : ObjectId) → IsAway (state_at self.old q) → ⊥ }
+        ensures done { OnOk result ((q : ObjectId) → IsCrashImage (state_at self.old q) (state_at self.new q)) }
         ensures failed { OnErr result ((q : ObjectId) → slot_at self.new q ≡ slot_at self.old q) }
-        ensures no_losses { (q : ObjectId) → (slot_at self.new q).losses ≡ (slot_at self.old q).losses }
-        ensures cause { HasCause (store_count (store_of self.old)) (store_count (store_of self.new)) result }
+        ensures no_losses { (q : ObjectId) → losses_at self.new q ≡ losses_at self.old q }
+        ensures counted { self.new.tally ≡ one_call (is_err result) self.old.tally }
+        ensures cause { HasCause (store_count self.old) (store_count self.new) result }
         ensures planned { ReopensAsPlanned (store_of self.old) (store_of self.new) pick result }
     {
         self.calls = self.calls.saturating_add(1);
         if names_call(&self.failing, self.calls) {
             self.planned = self.planned.saturating_add(1);
+            self.tally.count(true);
             return Err(StoreFault);
         }
         cut_all(&mut self.entries, pick);
+        self.tally.count(false);
         Ok(())
     }
 

@@ -1,10 +1,11 @@
 // A file in memory, which fails at the calls that it is told to fail at.
-ghost use Rattle.std.specs.Prelude.{◌≡◌, ◌≤◌, ◌++◌, ◌-◌, [], length, min, take, drop};
+ghost use Rattle.std.specs.Prelude.{◌≡◌, ◌≤◌, ◌++◌, ◌-◌, [], ◌∷◌, length, min, take, drop};
 ghost use Rattle.append_store.specs.Calls.{part_at};
 ghost use Rattle.append_store.specs.Plan.{due_of};
 
 use crate::{AppendFault, AppendFile, StoreFault};
 use gw_model::ObjectId;
+use gw_outside::Tally;
 use std::alloc::Global;
 
 /// A call that is to fail.
@@ -30,24 +31,28 @@ pub struct MemFile {
     calls: u64,
     planned: u64,
     starved: u64,
+    tally: Tally,
     ghost within: { durable ≤ length bytes.items },
 }
 
 impl AppendFile for MemFile {
-    ghost use Rattle.std.specs.Prelude.{IfOk, IfErr, OnOk};
+    ghost use Rattle.std.specs.Prelude.{IfOk, IfErr, OnOk, is_err};
     ghost use Rattle.gw_outside.specs.Causes.{HasCause};
+    ghost use Rattle.gw_outside.specs.Tally.{one_call};
     ghost use Rattle.append_store.specs.Calls.{added};
     ghost use Rattle.append_store.specs.File.{AppendsAsPlanned, ReadsAsPlanned, SyncsAsPlanned, file_count, shown};
 
     ghost tells = { Unit {0} };
 
-    ghost mark = { λ f. f.object };
+    ghost mark = { λ f. f.object ∷ [] };
 
     ghost content = { λ f. f.bytes.items };
 
     ghost durable = { λ f. f.durable };
 
     ghost count = { λ f. file_count (shown f) };
+
+    ghost tally = { λ f. f.tally };
 
     ghost durable_within = { λ f told. f.within };
 
@@ -56,6 +61,7 @@ impl AppendFile for MemFile {
         ensures content { (shown self.new).content ≡ (shown self.old).content ++ take (added result (length bytes.now)) bytes.now }
         ensures durable { (shown self.old).durable ≤ (shown self.new).durable }
         ensures same { (shown self.new).object ≡ (shown self.old).object }
+        ensures counted { (shown self.new).tally ≡ one_call (is_err result) (shown self.old).tally }
         ensures cause { HasCause (file_count (shown self.old)) (file_count (shown self.new)) result }
         ensures planned { AppendsAsPlanned (shown self.old) (shown self.new) (length bytes.now) result }
     {
@@ -67,8 +73,10 @@ impl AppendFile for MemFile {
         let (part, _) = bytes.split_at(kept);
         if self.bytes.extend_from_slice(part).is_err() {
             self.starved = self.starved.saturating_add(1);
+            self.tally.count(true);
             return Err(AppendFault { kept: 0 });
         }
+        self.tally.count(due.is_some());
         if due.is_some() {
             return Err(AppendFault { kept: kept as u64 });
         }
@@ -80,10 +88,11 @@ impl AppendFile for MemFile {
         ensures content { (shown self.new).content ≡ (shown self.old).content }
         ensures durable { (shown self.old).durable ≤ (shown self.new).durable }
         ensures same { (shown self.new).object ≡ (shown self.old).object }
+        ensures counted { (shown self.new).tally ≡ one_call (is_err result) (shown self.old).tally }
         ensures cause { HasCause (file_count (shown self.old)) (file_count (shown self.new)) result }
         ensures planned { SyncsAsPlanned (shown self.old) (shown self.new) result }
     {
-        if self.due().is_some() {
+        if self.fails() {
             return Err(StoreFault);
         }
         self.durable = self.bytes.len();
@@ -92,14 +101,16 @@ impl AppendFile for MemFile {
 
     fn read_at(&mut self, offset: u64, out: &mut [u8]) -> Result<usize, StoreFault>
         ensures length { IfOk result (λ n. n ≡ min (length out.old) (length (shown self.old).content - offset)) }
-        ensures bytes { IfOk result (λ n. out.new ≡ part_at (shown self.old).content offset n ++ drop n out.old) }
+        ensures bytes { IfOk result (λ n. take n out.new ≡ part_at (shown self.old).content offset n) }
+        ensures rest { IfOk result (λ n. out.new ≡ part_at (shown self.old).content offset n ++ drop n out.old) }
         ensures content { (shown self.new).content ≡ (shown self.old).content }
         ensures durable { (shown self.new).durable ≡ (shown self.old).durable }
         ensures same { (shown self.new).object ≡ (shown self.old).object }
+        ensures counted { (shown self.new).tally ≡ one_call (is_err result) (shown self.old).tally }
         ensures cause { HasCause (file_count (shown self.old)) (file_count (shown self.new)) result }
         ensures planned { ReadsAsPlanned (shown self.old) (shown self.new) result }
     {
-        if self.due().is_some() {
+        if self.fails() {
             return Err(StoreFault);
         }
         Ok(copy_part(&self.bytes, offset, out))
@@ -141,9 +152,9 @@ pub(crate) fn copy_part(bytes: &[u8], offset: u64, out: &mut [u8]) -> usize
 }
 
 impl MemFile {
-    ghost use Rattle.std.specs.Prelude.{length};
+    ghost use Rattle.std.specs.Prelude.{length, is_some};
     ghost use Rattle.append_store.specs.State.{IsCrashImage, Kept};
-    ghost use Rattle.append_store.specs.File.{cut_file, IsFresh, IsDue, IsEmptied, IsHandedOut, shown};
+    ghost use Rattle.append_store.specs.File.{cut_file, IsFresh, IsDue, IsEmptied, IsHandedOut, counted_call, next_due, shown};
 
     // A file of no bytes, with the calls of this object that are to fail.
     pub(crate) fn empty(alloc: Global, object: ObjectId, plan: Vec<Planned>) -> Self
@@ -157,6 +168,7 @@ impl MemFile {
             calls: 0,
             planned: 0,
             starved: 0,
+            tally: Tally::new(),
         }
     }
 
@@ -170,6 +182,23 @@ impl MemFile {
             self.planned = self.planned.saturating_add(1);
         }
         due
+    }
+
+    // Counts a call that fails exactly where it is to fail; whether it does.
+    fn fails(&mut self) -> bool
+        ensures due { result ≡ is_some (next_due (shown self.old)) }
+        ensures counted { shown self.new ≡ counted_call (shown self.old) result }
+    {
+        let due = self.due().is_some();
+        self.tally.count(due);
+        due
+    }
+
+    /// What the file counted since it was taken.
+    pub fn tally(&self) -> Tally
+        ensures { result ≡ (shown self.now).tally }
+    {
+        self.tally
     }
 
     /// The object that the file was taken of.
@@ -226,13 +255,14 @@ impl MemFile {
         self
     }
 
-    // The file under its name, with no faults.
+    // The file under its name, with no faults and no calls.
     pub(crate) fn handed_out(mut self, object: ObjectId) -> Self
         ensures { IsHandedOut (shown self) (shown result) object }
     {
         self.object = object;
         self.planned = 0;
         self.starved = 0;
+        self.tally = Tally::new();
         self
     }
 }

@@ -1,5 +1,5 @@
 // What a store in memory keeps under a name, and what one call does there.
-ghost use Rattle.std.specs.Prelude.{◌≡◌, ◌≢◌, ◌++◌, ◌-◌, min, length, drop, IfSome, OnSome, IfNone, is_none, is_some};
+ghost use Rattle.std.specs.Prelude.{[], ◌∷◌, take, ◌≡◌, ◌≢◌, ◌++◌, ◌-◌, min, length, drop, IfSome, OnSome, IfNone, is_none, is_some};
 ghost use Rattle.std.specs.Option.{option_copied};
 ghost use Rattle.gw_model.specs.declared.object.ObjectId.{ObjectId};
 ghost use Rattle.append_store.specs.State.{IsThere, Lent, bytes_of, content_in};
@@ -72,8 +72,8 @@ pub(crate) fn take_at(object: ObjectId, entry: &mut Entry) -> Option<MemFile>
 
 // Puts a file back where it was taken, and lets go of it elsewhere.
 pub(crate) fn give_at(object: ObjectId, entry: &mut Entry, file: MemFile)
-    ensures own { (entry_slot object entry.old).state ≡ Lent (shown file).object → IsBackAs (entry_slot object entry.old) (entry_slot object entry.new) (shown file) }
-    ensures foreign { (entry_slot object entry.old).state ≢ Lent (shown file).object → entry_slot object entry.new ≡ entry_slot object entry.old }
+    ensures own { (entry_slot object entry.old).state ≡ Lent ((shown file).object ∷ []) → IsBackAs (entry_slot object entry.old) (entry_slot object entry.new) (shown file) }
+    ensures foreign { (entry_slot object entry.old).state ≢ Lent ((shown file).object ∷ []) → entry_slot object entry.new ≡ entry_slot object entry.old }
 {
     if file.object() == object {
         if let Spot::Out = entry.spot {

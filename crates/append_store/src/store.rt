@@ -1,9 +1,11 @@
 // An append-only file, and a store of such files. What they hold is told by some and not by others.
-ghost use Rattle.std.specs.Prelude.{◌≡◌, ◌≢◌, ◌⊎◌, ◌++◌, ◌-◌, ◌^◌, ◌<◌, ◌≤◌, List, ℕ, length, min, take, drop, IfOk, IfErr, OnOk, OnErr, IsErrOf};
+ghost use Rattle.std.specs.Prelude.{◌≡◌, ◌≢◌, ◌⊎◌, ◌++◌, ◌-◌, ◌^◌, ◌<◌, ◌≤◌, List, ℕ, length, min, take, drop, IfOk, IfErr, OnOk, OnErr, IsErrOf, is_err};
 ghost use Rattle.gw_outside.specs.Causes.{HasCause, Rose, Carries};
+ghost use Rattle.gw_outside.specs.Tally.{joined_tally, no_calls, one_call};
+ghost use Rattle.gw_outside.specs.declared.tally.Tally.{Tally};
 ghost use Rattle.gw_model.specs.declared.object.ObjectId.{ObjectId};
 ghost use Rattle.append_store.specs.State.{ObjectState, Missing, Kept, Lent, IsAway, IsCrashImage, IsThere, bytes_of};
-ghost use Rattle.append_store.specs.Calls.{Creates, MayCreate, Guards, IsRising, Lists, added, part_at};
+ghost use Rattle.append_store.specs.Calls.{Creates, MayCreate, Guards, IsRising, Lists, added, creation_tally, listing_tally, part_at};
 
 use gw_model::{KeptObject, ObjectId};
 
@@ -41,8 +43,8 @@ pub trait AppendFile: Drop {
     /// Whether files of this type tell what they hold: the clauses on it stand under this premise.
     ghost tells: { Type 0 };
 
-    /// The object that the file was taken of.
-    ghost mark: { Self → ObjectId };
+    /// Which file this is: the name of its object, or what the files have that it is made of.
+    ghost mark: { Self → List ObjectId };
 
     /// The bytes of the file.
     ghost content: { Self → List ℕ };
@@ -53,6 +55,9 @@ pub trait AppendFile: Drop {
     /// How often the file has failed since it was taken.
     ghost count: { Self → ℕ };
 
+    /// The calls since the file was taken, and how many of them failed.
+    ghost tally: { Self → Tally };
+
     /// Adds `bytes` at the end. Where it fails, the front of `bytes` that the error names was
     /// added.
     fn append(&mut self, bytes: &[u8]) -> Result<(), AppendFault>
@@ -60,6 +65,7 @@ pub trait AppendFile: Drop {
         ensures content { tells → content self.new ≡ content self.old ++ take (added result (length bytes.now)) bytes.now }
         ensures durable { tells → durable self.old ≤ durable self.new }
         ensures same { mark self.new ≡ mark self.old }
+        ensures counted { tally self.new ≡ one_call (is_err result) (tally self.old) }
         ensures cause { HasCause (count self.old) (count self.new) result };
 
     /// Makes the whole file durable. A call that failed may have made a part of it durable.
@@ -68,17 +74,19 @@ pub trait AppendFile: Drop {
         ensures content { tells → content self.new ≡ content self.old }
         ensures durable { tells → durable self.old ≤ durable self.new }
         ensures same { mark self.new ≡ mark self.old }
+        ensures counted { tally self.new ≡ one_call (is_err result) (tally self.old) }
         ensures cause { HasCause (count self.old) (count self.new) result };
 
     /// Copies what lies from `offset` on into the front of `out`, as far as there is room, and gives
-    /// how many bytes that were. The rest of `out` stays. A call that failed may have written any
-    /// bytes into `out`.
+    /// how many bytes that were. What lies behind them, and all after a call that failed, may be
+    /// any bytes.
     fn read_at(&mut self, offset: u64, out: &mut [u8]) -> Result<usize, StoreFault>
         ensures length { IfOk result (λ n. n ≡ min (length out.old) (length (content self.old) - offset)) }
-        ensures bytes { IfOk result (λ n. tells → out.new ≡ part_at (content self.old) offset n ++ drop n out.old) }
+        ensures bytes { IfOk result (λ n. tells → take n out.new ≡ part_at (content self.old) offset n) }
         ensures content { tells → content self.new ≡ content self.old }
         ensures durable { tells → durable self.new ≡ durable self.old }
         ensures same { mark self.new ≡ mark self.old }
+        ensures counted { tally self.new ≡ one_call (is_err result) (tally self.old) }
         ensures cause { HasCause (count self.old) (count self.new) result };
 
     /// How many bytes the file has. A file has fewer than 2^63 bytes, the limit of this gateway.
@@ -110,6 +118,10 @@ pub trait Cluster: Drop {
     /// How often the store has failed, with the failures of the files that were given back.
     ghost count: { Self → ℕ };
 
+    /// The calls that were made, and how many of them failed, with those of the files that were
+    /// given back. A call that was refused memory isn't counted.
+    ghost tally: { Self → Tally };
+
     /// The objects that are there, with their lengths in bytes: logs first, then by numbers. No
     /// object may be out. Takes memory.
     fn list(&mut self) -> Result<Vec<KeptObject>, ListFault>
@@ -119,13 +131,15 @@ pub trait Cluster: Drop {
         ensures same { Self.File.tells → (q : ObjectId) → at self.new q ≡ at self.old q }
         ensures no_losses { Self.File.tells → (q : ObjectId) → losses self.new q ≡ losses self.old q }
         ensures later { count self.old ≤ count self.new }
+        ensures counted { tally self.new ≡ listing_tally result (tally self.old) }
         ensures cause { IsErrOf result ListFault.Fault → Rose (count self.old) (count self.new) };
 
     /// Makes an object of no bytes where nothing is, and leaves one that is there as it is. A call
-    /// that failed may have made it. Takes memory.
+    /// that failed may have made it; one that was refused memory didn't. Takes memory.
     fn create(&mut self, object: ObjectId) -> Result<(), CreateFault>
         ensures done { OnOk result (Self.File.tells → Creates (at self.old object) (at self.new object)) }
         ensures failed { OnErr result (Self.File.tells → MayCreate (at self.old object) (at self.new object)) }
+        ensures refused { IsErrOf result CreateFault.Memory → Self.File.tells → at self.new object ≡ at self.old object }
         ensures others { Self.File.tells → (q : ObjectId) → q ≢ object → at self.new q ≡ at self.old q }
 
         // Only where nothing was there may the losses rise.
@@ -133,34 +147,37 @@ pub trait Cluster: Drop {
         ensures losses_there { Self.File.tells → at self.old object ≢ Missing → losses self.new object ≡ losses self.old object }
         ensures no_losses { Self.File.tells → (q : ObjectId) → q ≢ object → losses self.new q ≡ losses self.old q }
         ensures later { count self.old ≤ count self.new }
+        ensures counted { tally self.new ≡ creation_tally result (tally self.old) }
         ensures cause { IsErrOf result CreateFault.Fault → Rose (count self.old) (count self.new) };
 
-    /// Takes the file of an object out. Its count begins at 0. A call that failed takes nothing
-    /// out.
+    /// Takes the file of an object out. Its count and its tally begin at 0. A call that failed
+    /// takes nothing out.
     fn take_file(&mut self, object: ObjectId) -> Result<Self::File, StoreFault>
         requires { Self.File.tells → IsThere (at self.old object) }
         ensures taken { IfOk result (λ file. Self.File.tells → at self.old object ≡ Kept (Self.File.content file) (Self.File.durable file)) }
         ensures out { IfOk result (λ file. Self.File.tells → at self.new object ≡ Lent (Self.File.mark file)) }
         ensures fresh { IfOk result (λ file. Self.File.count file ≡ 0) }
+        ensures no_calls { IfOk result (λ file. Self.File.tally file ≡ no_calls) }
         ensures failed { OnErr result (Self.File.tells → at self.new object ≡ at self.old object) }
         ensures others { Self.File.tells → (q : ObjectId) → q ≢ object → at self.new q ≡ at self.old q }
         ensures no_losses { Self.File.tells → (q : ObjectId) → losses self.new q ≡ losses self.old q }
+        ensures counted { tally self.new ≡ one_call (is_err result) (tally self.old) }
         ensures cause { HasCause (count self.old) (count self.new) result };
 
-    /// Puts a file back, and adds its failures to the store's. The file is foreign where the object
-    /// isn't out or where it was taken of another one: a store may then lose the object.
+    /// Puts a file back, and adds its failures and its tally to the store's. The file is foreign where
+    /// the object isn't out or where it was taken of another one: a store may then lose the object.
     fn give_file(&mut self, object: ObjectId, file: Self::File)
         ensures own { Self.File.tells → at self.old object ≡ Lent (Self.File.mark file) → at self.new object ≡ Kept (Self.File.content file) (Self.File.durable file) }
         ensures own_losses { Self.File.tells → at self.old object ≡ Lent (Self.File.mark file) → losses self.new object ≡ losses self.old object }
-        ensures foreign { Self.File.tells → at self.old object ≢ Lent (Self.File.mark file) → (at self.new object ≡ at self.old object) ⊎ (losses self.old object < losses self.new object) }
         ensures losses { Self.File.tells → losses self.old object ≤ losses self.new object }
         ensures others { Self.File.tells → (q : ObjectId) → q ≢ object → at self.new q ≡ at self.old q }
         ensures no_losses { Self.File.tells → (q : ObjectId) → q ≢ object → losses self.new q ≡ losses self.old q }
+        ensures counted { tally self.new ≡ joined_tally (tally self.old) (Self.File.tally file) }
         ensures count { Carries (count self.old) (Self.File.count file) (count self.new) };
 
     /// Reads an object without taking it out: copies what lies from `offset` on into the front of
-    /// `out`, as far as there is room, and gives how many bytes that were. The rest of `out` stays.
-    /// A call that failed may have written any bytes into `out`.
+    /// `out`, as far as there is room, and gives how many bytes that were. What lies behind them,
+    /// and all after a call that failed, may be any bytes.
     fn read_closed(
         &mut self,
         object: ObjectId,
@@ -170,9 +187,10 @@ pub trait Cluster: Drop {
         requires { Self.File.tells → IsThere (at self.old object) }
         ensures bound { IfOk result (λ n. n ≤ length out.old) }
         ensures length { IfOk result (λ n. Self.File.tells → n ≡ min (length out.old) (length (bytes_of (at self.old object)) - offset)) }
-        ensures bytes { IfOk result (λ n. Self.File.tells → out.new ≡ part_at (bytes_of (at self.old object)) offset n ++ drop n out.old) }
+        ensures bytes { IfOk result (λ n. Self.File.tells → take n out.new ≡ part_at (bytes_of (at self.old object)) offset n) }
         ensures same { Self.File.tells → (q : ObjectId) → at self.new q ≡ at self.old q }
         ensures no_losses { Self.File.tells → (q : ObjectId) → losses self.new q ≡ losses self.old q }
+        ensures counted { tally self.new ≡ one_call (is_err result) (tally self.old) }
         ensures cause { HasCause (count self.old) (count self.new) result };
 
     /// Takes an object away, with its bytes. A call that failed may have taken it away.
@@ -183,6 +201,7 @@ pub trait Cluster: Drop {
         ensures others { Self.File.tells → (q : ObjectId) → q ≢ object → at self.new q ≡ at self.old q }
         ensures losses { Self.File.tells → Guards (at self.old object) (at self.new object) (losses self.old object) (losses self.new object) }
         ensures no_losses { Self.File.tells → (q : ObjectId) → q ≢ object → losses self.new q ≡ losses self.old q }
+        ensures counted { tally self.new ≡ one_call (is_err result) (tally self.old) }
         ensures cause { HasCause (count self.old) (count self.new) result };
 
     /// Makes the store what it may be after a crash: each object keeps a prefix that has at least
@@ -193,6 +212,7 @@ pub trait Cluster: Drop {
         ensures done { OnOk result (Self.File.tells → (q : ObjectId) → IsCrashImage (at self.old q) (at self.new q)) }
         ensures failed { OnErr result (Self.File.tells → (q : ObjectId) → (at self.new q ≡ at self.old q) ⊎ IsCrashImage (at self.old q) (at self.new q)) }
         ensures no_losses { Self.File.tells → (q : ObjectId) → losses self.new q ≡ losses self.old q }
+        ensures counted { tally self.new ≡ one_call (is_err result) (tally self.old) }
         ensures cause { HasCause (count self.old) (count self.new) result };
 
     /// How often the store has failed, with the failures of the files that were given back. The

@@ -143,10 +143,8 @@ take_min (suc n) [] = let none : min (suc n) 0 ≡ 0 = omega arith in ap (λ k. 
 take_min (suc n) (x ∷ xs) = let less : min (suc n) (length (x ∷ xs)) ≡ suc (min n (length xs)) = omega arith in ap (λ k. take k (x ∷ xs)) less ∙ ap (λ ys. x ∷ ys) (take_min n xs)
 
 -- what a read gave of a range, and the range
-pub read_is : (n : ℕ) (content old out : List ℕ) (offset count : ℕ) → count ≡ min (length old) (length content - offset) → length old ≡ n → out ≡ part_at content offset count ++ drop count old
+pub read_is : (n : ℕ) (content old out : List ℕ) (offset count : ℕ) → count ≡ min (length old) (length content - offset) → length old ≡ n → take count out ≡ part_at content offset count
     → take count out ≡ range_of offset n content
-read_is n content old out offset count count_is same is =
+read_is n content old out offset count count_is same front =
     let there : length (drop offset content) ≡ length content - offset = length-drop offset content in
-    let len : length (part_at content offset count) ≡ count = length-take count (drop offset content) ∙ omega (arith, count_is, there) in
-    let front : take count out ≡ part_at content offset count = ap (take count) is ∙ ap (λ k. take k (part_at content offset count ++ drop count old)) (sym len) ∙ take-append_seam (part_at content offset count) (drop count old) in
     front ∙ ap (λ k. take k (drop offset content)) (count_is ∙ ap (λ k. min k (length content - offset)) same ∙ ap (min n) (sym there)) ∙ take_min n (drop offset content)

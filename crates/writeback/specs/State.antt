@@ -12,9 +12,9 @@ use Rattle.writeback.specs.declared.owed.Owed.TheVariants.{Write, Commit}
 use Rattle.writeback.specs.declared.owed.Fate.{Fate}
 use Rattle.writeback.specs.declared.owed.Fate.TheVariants.{Durable, Fault, Removed}
 
--- what a file tells: its object, its bytes, how many of them are durable, and its count of faults
+-- what a file tells: its mark, its bytes, how many of them are durable, and its count of faults
 pub record FileSeen : Type 0 where
-  pub object : ObjectId
+  pub object : List ObjectId
   pub content : List ℕ
   pub durable : ℕ
   pub faults : ℕ

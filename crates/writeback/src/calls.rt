@@ -1,5 +1,5 @@
 // Calls on the file, each with the note of its outcome.
-ghost use Rattle.std.specs.Prelude.{◌≡◌, ◌-◌, ◌<◌, ◌≤◌, ◌++◌, [], ◌∷◌, length, min, drop, IfOk, IfErr};
+ghost use Rattle.std.specs.Prelude.{◌≡◌, ◌-◌, ◌<◌, ◌≤◌, ◌++◌, [], ◌∷◌, length, min, take, IfOk, IfErr};
 ghost use Rattle.append_store.specs.Calls.{part_at};
 ghost use Rattle.writeback.specs.Steps.{append_call, plain_call, added, with_calls, Leaves};
 
@@ -40,7 +40,7 @@ pub fn read_at<F: AppendFile>(
 ) -> Result<usize, StoreFault>
     requires { 0 < trace.old.room }
     ensures length { IfOk result (λ n. n ≡ min (length out.old) (length (F.content file.old) - offset)) }
-    ensures bytes { IfOk result (λ n. F.tells → out.new ≡ part_at (F.content file.old) offset n ++ drop n out.old) }
+    ensures bytes { IfOk result (λ n. F.tells → take n out.new ≡ part_at (F.content file.old) offset n) }
     ensures notes { trace.new ≡ with_calls (plain_call result ∷ []) trace.old }
     ensures file { Leaves F.tells [] (plain_call result ∷ [])
         (record { object = F.mark file.old; content = F.content file.old; durable = F.durable file.old; faults = F.count file.old })
