@@ -1,4 +1,1 @@
-pub mod Texts
-pub mod Taken
-pub mod Exact
 pub mod Types

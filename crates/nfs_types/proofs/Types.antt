@@ -5,11 +5,11 @@ use Rattle.nfs_types.specs.declared.time.SetTime.{SetTime}
 use Rattle.nfs_types.specs.declared.time.SetTime.TheVariants.{Leave, Server, At}
 use Rattle.nfs_types.specs.declared.file_type.FileType.{FileType}
 use Rattle.nfs_types.specs.declared.file_type.FileType.TheVariants.{Regular, Directory, Block, Character, Link, Socket, Fifo}
-use Rattle.nfs_types.specs.Rows.{Item, word_row, long_row, option_row}
-use Rattle.nfs_types.specs.Forms.{◌&◌, made, given, option_at}
-use Rattle.nfs_types.specs.Exact.{IsExact}
+use Rattle.xdr.specs.Rows.{Item, word_row, long_row, option_row}
+use Rattle.xdr.specs.Forms.{◌&◌, map_at, constant_at, option_at}
+use Rattle.xdr.specs.Exact.{IsExact}
 use Rattle.nfs_types.specs.Types.{time_row, time_of, time_at, set_time_row, set_time_at, set_row, set_of, set_at, type_row, type_at, device_row, device_of, device_at, attr_row, attr_of, attr_at}
-use Rattle.nfs_types.proofs.Exact.{exact_u32, exact_u64, both, remade, option, given_arm, made_arm, has_given, has_made, HasArm, union}
+use Rattle.xdr.proofs.Exact.{exact_u32, exact_u64, both, remade, option, given_arm, made_arm, has_given, has_made, HasArm, union}
 
 abbrev words : IsExact (u32_at & u32_at) (λ (t : ℕ × ℕ). word_row t.0 ++ word_row t.1)
 words = both u32_at u32_at word_row word_row exact_u32 exact_u32
@@ -23,7 +23,7 @@ unfolding device_at
 exact_device = remade device_of (λ d. (d.major, d.minor)) (u32_at & u32_at) (λ t. word_row t.0 ++ word_row t.1) device_row words (λ d. refl) (λ d. refl)
 
 abbrev set_arms : List (ℕ × (Cursor → Reading SetTime))
-set_arms = (0, given Leave) ∷ (1, given Server) ∷ (2, made At time_at) ∷ []
+set_arms = (0, constant_at Leave) ∷ (1, constant_at Server) ∷ (2, map_at At time_at) ∷ []
 
 set_arm : (t : SetTime) → HasArm set_time_row set_arms t
 set_arm Leave = has_given set_time_row set_arms 0 Leave refl (λ place c. refl)
@@ -56,7 +56,7 @@ exact_set =
     (λ s. refl) (λ s. refl)
 
 abbrev types : List (ℕ × (Cursor → Reading FileType))
-types = (1, given Regular) ∷ (2, given Directory) ∷ (3, given Block) ∷ (4, given Character) ∷ (5, given Link) ∷ (6, given Socket) ∷ (7, given Fifo) ∷ []
+types = (1, constant_at Regular) ∷ (2, constant_at Directory) ∷ (3, constant_at Block) ∷ (4, constant_at Character) ∷ (5, constant_at Link) ∷ (6, constant_at Socket) ∷ (7, constant_at Fifo) ∷ []
 
 type_arm : (t : FileType) → HasArm type_row types t
 type_arm Regular = has_given type_row types 1 Regular refl (λ place c. refl)

@@ -9,8 +9,8 @@ use Rattle.nfs_types.specs.declared.file_type.FileType.{FileType}
 use Rattle.nfs_types.specs.declared.file_type.FileType.TheVariants.{Regular, Directory, Block, Character, Link, Socket, Fifo}
 use Rattle.nfs_types.specs.declared.attr.Attr.{Attr}
 use Rattle.nfs_types.specs.declared.attr.Device.{Device}
-use Rattle.nfs_types.specs.Rows.{Item, Word, Long, word_row, long_row, option_row}
-use Rattle.nfs_types.specs.Forms.{◌&◌, made, given, option_at, union_at}
+use Rattle.xdr.specs.Rows.{Item, Word, Long, word_row, long_row, option_row}
+use Rattle.xdr.specs.Forms.{◌&◌, map_at, constant_at, option_at, union_at}
 
 -- nfstime3: seconds and nanoseconds
 abbrev pub time_row : Time → List Item
@@ -20,7 +20,7 @@ abbrev pub time_of : ℕ × ℕ → Time
 time_of t = record { seconds = t.0; nanos = t.1 }
 
 unfoldable pub time_at : Cursor → Reading Time
-time_at = made time_of (u32_at & u32_at)
+time_at = map_at time_of (u32_at & u32_at)
 
 -- set_atime and set_mtime: leave it, the server's moment, or a time that follows
 abbrev pub set_time_row : SetTime → List Item
@@ -29,7 +29,7 @@ set_time_row Server = Word 1 ∷ []
 set_time_row (At t) = Word 2 ∷ time_row t
 
 unfoldable pub set_time_at : Cursor → Reading SetTime
-set_time_at = union_at ((0, given Leave) ∷ (1, given Server) ∷ (2, made At time_at) ∷ [])
+set_time_at = union_at ((0, constant_at Leave) ∷ (1, constant_at Server) ∷ (2, map_at At time_at) ∷ [])
 
 -- sattr3: mode, uid, gid, size, atime and mtime, each where it is to be set
 abbrev pub set_row : SetAttr → List Item
@@ -39,7 +39,7 @@ abbrev pub set_of : Option ℕ × (Option ℕ × (Option ℕ × (Option ℕ × (
 set_of s = record { mode = s.0; uid = s.1.0; gid = s.1.1.0; size = s.1.1.1.0; atime = s.1.1.1.1.0; mtime = s.1.1.1.1.1 }
 
 unfoldable pub set_at : Cursor → Reading SetAttr
-set_at = made set_of (option_at u32_at & option_at u32_at & option_at u32_at & option_at u64_at & set_time_at & set_time_at)
+set_at = map_at set_of (option_at u32_at & option_at u32_at & option_at u32_at & option_at u64_at & set_time_at & set_time_at)
 
 -- ftype3
 abbrev pub type_number : FileType → ℕ
@@ -55,7 +55,7 @@ abbrev pub type_row : FileType → List Item
 type_row t = Word (type_number t) ∷ []
 
 unfoldable pub type_at : Cursor → Reading FileType
-type_at = union_at ((1, given Regular) ∷ (2, given Directory) ∷ (3, given Block) ∷ (4, given Character) ∷ (5, given Link) ∷ (6, given Socket) ∷ (7, given Fifo) ∷ [])
+type_at = union_at ((1, constant_at Regular) ∷ (2, constant_at Directory) ∷ (3, constant_at Block) ∷ (4, constant_at Character) ∷ (5, constant_at Link) ∷ (6, constant_at Socket) ∷ (7, constant_at Fifo) ∷ [])
 
 -- specdata3: two numbers of a device
 abbrev pub device_row : Device → List Item
@@ -65,7 +65,7 @@ abbrev pub device_of : ℕ × ℕ → Device
 device_of d = record { major = d.0; minor = d.1 }
 
 unfoldable pub device_at : Cursor → Reading Device
-device_at = made device_of (u32_at & u32_at)
+device_at = map_at device_of (u32_at & u32_at)
 
 -- fattr3: type, mode, nlink, uid, gid, size, used, rdev, fsid, fileid, atime, mtime, ctime
 abbrev pub attr_row : Attr → List Item
@@ -98,7 +98,7 @@ attr_of a =
     }
 
 unfoldable pub attr_at : Cursor → Reading Attr
-attr_at = made attr_of (type_at & u32_at & u32_at & u32_at & u32_at & u64_at & u64_at & device_at & u64_at & u64_at & time_at & time_at & time_at)
+attr_at = map_at attr_of (type_at & u32_at & u32_at & u32_at & u32_at & u64_at & u64_at & device_at & u64_at & u64_at & time_at & time_at & time_at)
 
 -- a moment in milliseconds as a time; seconds stop at their greatest number
 abbrev pub moment_time : ℕ → Time

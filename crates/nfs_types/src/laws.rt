@@ -1,14 +1,7 @@
 // What the definitions of rows and readings mean for one another. No law has a body: each is a fact of the definitions,
 // which callers cite.
-ghost use Rattle.std.specs.Prelude.{List};
-ghost use Rattle.nfs_types.specs.Rows.{Item, Spells, text, AllFit};
-ghost use Rattle.nfs_types.specs.Exact.{IsExact, IsReadAgain};
+ghost use Rattle.xdr.specs.Exact.{IsExact, IsReadAgain};
 ghost use Rattle.nfs_types.specs.Types.{time_at, time_row, set_at, set_row, attr_at, attr_row};
-
-/// What is written for a row spells it.
-pub fn row_law()
-    ensures written { (row : List Item) → AllFit row → Spells (text row) row }
-{}
 
 /// A time is read from exactly its spellings, and what is written for it is read again.
 pub fn time_law()

@@ -11,7 +11,7 @@ mod time;
 
 pub use attr::{Attr, Device, read_attr, read_device};
 pub use file_type::{FileType, read_type};
-pub use laws::{attr_law, row_law, set_law, time_law};
+pub use laws::{attr_law, set_law, time_law};
 pub use set::{SetAttr, read_set};
 pub use text::attr_text;
 pub use time::{SetTime, Time, read_time};

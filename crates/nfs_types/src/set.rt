@@ -1,7 +1,7 @@
 // What a request wants to set.
 ghost use Rattle.std.specs.Prelude.{◌≡◌, IfOk, IfErr, Ok, Err};
 ghost use Rattle.xdr.specs.Reading.{u32_at, u64_at};
-ghost use Rattle.nfs_types.specs.Forms.{option_at};
+ghost use Rattle.xdr.specs.Forms.{option_at};
 ghost use Rattle.nfs_types.specs.Types.{set_at};
 
 use crate::SetTime;

@@ -2,7 +2,7 @@
 ghost use Rattle.std.specs.Prelude.{◌≡◌, ◌+◌, ◌≤◌, ◌++◌};
 ghost use Rattle.arrayvec.specs.ArrayVec.{array_vec_len};
 ghost use Rattle.xdr.specs.Items.{word, long};
-ghost use Rattle.nfs_types.specs.Rows.{written, text};
+ghost use Rattle.xdr.specs.Rows.{joined_text, text};
 ghost use Rattle.nfs_types.specs.Types.{time_row, device_row, attr_row};
 
 use crate::{Attr, Device, Time};
@@ -54,7 +54,7 @@ fn put_u64(block: &mut Block, n: u64)
 
 fn put_time(block: &mut Block, time: &Time)
     requires { array_vec_len block.old + 8 ≤ 84 }
-    ensures items { block.new.items ≡ written block.old.items (time_row time.now) }
+    ensures items { block.new.items ≡ joined_text block.old.items (time_row time.now) }
     ensures len { array_vec_len block.new ≡ array_vec_len block.old + 8 }
 {
     put_u32(block, time.seconds);
@@ -63,7 +63,7 @@ fn put_time(block: &mut Block, time: &Time)
 
 fn put_device(block: &mut Block, device: &Device)
     requires { array_vec_len block.old + 8 ≤ 84 }
-    ensures items { block.new.items ≡ written block.old.items (device_row device.now) }
+    ensures items { block.new.items ≡ joined_text block.old.items (device_row device.now) }
     ensures len { array_vec_len block.new ≡ array_vec_len block.old + 8 }
 {
     put_u32(block, device.major);

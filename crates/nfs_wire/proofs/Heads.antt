@@ -3,7 +3,7 @@ use Rattle.std.proofs.Common.{◌≡◌, ℕ, ◌%◌, ◌^◌, ◌<◌, Bool, t
 use Rattle.xdr.specs.Items.{word, pad_len, fixed_text, opaque_text}
 use Rattle.tickets.specs.declared.answer.Body.{Body}
 use Rattle.tickets.specs.declared.answer.Body.TheVariants as body
-use Rattle.nfs_types.specs.Rows.{Word, text}
+use Rattle.xdr.specs.Rows.{Word, text}
 use Rattle.nfs_wire.specs.Results.{Read, Refused, flag_item, results_row}
 use Rattle.nfs_wire.specs.Heads.{body_results, body_data, head_row}
 

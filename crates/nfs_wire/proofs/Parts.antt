@@ -3,19 +3,19 @@ use Rattle.std.proofs.Common.{ℕ, List, [], ◌∷◌, ◌++◌, refl}
 use Rattle.gw_model.specs.declared.Stable.{Stable}
 use Rattle.gw_model.specs.declared.Stable.TheVariants.{Unstable, DataSync, FileSync}
 use Rattle.xdr.specs.Reading.{Cursor, Reading, fixed_at}
-use Rattle.nfs_types.specs.Rows.{Item, Fixed}
-use Rattle.nfs_types.specs.Forms.{◌&◌, made, given}
-use Rattle.nfs_types.specs.Exact.{IsExact}
+use Rattle.xdr.specs.Rows.{Item, Fixed}
+use Rattle.xdr.specs.Forms.{◌&◌, map_at, constant_at}
+use Rattle.xdr.specs.Exact.{IsExact}
 use Rattle.nfs_types.specs.Types.{set_row, set_at, device_row, device_at}
 use Rattle.nfs_types.specs.declared.set.SetAttr.{SetAttr}
 use Rattle.nfs_types.specs.declared.attr.Device.{Device}
-use Rattle.nfs_types.proofs.Exact.{exact_fixed, exact_opaque, both, remade, given_arm, made_arm, has_given, has_made, HasArm, union}
+use Rattle.xdr.proofs.Exact.{exact_fixed, exact_opaque, both, remade, given_arm, made_arm, has_given, has_made, HasArm, union}
 use Rattle.nfs_types.proofs.Types.{exact_set, exact_device}
 use Rattle.nfs_wire.specs.declared.args.CreateHow.{CreateHow}
 use Rattle.nfs_wire.specs.declared.args.CreateHow.TheVariants.{Unchecked, Guarded, Exclusive}
 use Rattle.nfs_wire.specs.declared.args.NodeKind.{NodeKind}
 use Rattle.nfs_wire.specs.declared.args.NodeKind.TheVariants.{Regular, Directory, Block, Character, Link, Socket, Fifo}
-use Rattle.nfs_wire.specs.Arguments.{handle_row, handle_at, name_row, name_at, path_row, path_at, place_row, place_of_parts, place_at, stable_row, stable_at, how_row, how_at, node_row, block_of, character_of, node_at}
+use Rattle.nfs_wire.specs.Arguments.{handle_row, handle_at, name_row, name_at, path_row, path_at, dir_op_row, dir_op_of, dir_op_at, stable_row, stable_at, how_row, how_at, node_row, block_of, character_of, node_at}
 
 pub exact_handle : IsExact handle_at handle_row
 exact_handle = exact_opaque 64
@@ -29,13 +29,13 @@ verifier_row v = Fixed 8 v ∷ []
 pub exact_verifier : IsExact (fixed_at 8) verifier_row
 exact_verifier = exact_fixed 8
 
-pub exact_place : IsExact place_at place_row
-unfolding place_at
+pub exact_place : IsExact dir_op_at dir_op_row
+unfolding dir_op_at
 exact_place =
-    remade place_of_parts (λ p. (p.dir, p.name)) (handle_at & name_at) (λ t. handle_row t.0 ++ name_row t.1) place_row (both handle_at name_at handle_row name_row exact_handle (exact_opaque 4096)) (λ p. refl) (λ t. refl)
+    remade dir_op_of (λ p. (p.dir, p.name)) (handle_at & name_at) (λ t. handle_row t.0 ++ name_row t.1) dir_op_row (both handle_at name_at handle_row name_row exact_handle (exact_opaque 4096)) (λ p. refl) (λ t. refl)
 
 abbrev stables : List (ℕ × (Cursor → Reading Stable))
-stables = (0, given Unstable) ∷ (1, given DataSync) ∷ (2, given FileSync) ∷ []
+stables = (0, constant_at Unstable) ∷ (1, constant_at DataSync) ∷ (2, constant_at FileSync) ∷ []
 
 stable_arm : (s : Stable) → HasArm stable_row stables s
 stable_arm Unstable = has_given stable_row stables 0 Unstable refl (λ place c. refl)
@@ -47,7 +47,7 @@ unfolding stable_at
 exact_stable = union stable_row stables (given_arm stable_row 0 Unstable refl, (given_arm stable_row 1 DataSync refl, (given_arm stable_row 2 FileSync refl, tt))) stable_arm
 
 abbrev hows : List (ℕ × (Cursor → Reading CreateHow))
-hows = (0, made Unchecked set_at) ∷ (1, made Guarded set_at) ∷ (2, made Exclusive (fixed_at 8)) ∷ []
+hows = (0, map_at Unchecked set_at) ∷ (1, map_at Guarded set_at) ∷ (2, map_at Exclusive (fixed_at 8)) ∷ []
 
 how_arm : (h : CreateHow) → HasArm how_row hows h
 how_arm (Unchecked s) = has_made how_row hows 0 Unchecked set_at set_row exact_set s refl (λ place c. refl)
@@ -69,13 +69,13 @@ exact_device_node = both set_at device_at set_row device_row exact_set exact_dev
 
 abbrev nodes : List (ℕ × (Cursor → Reading NodeKind))
 nodes =
-    (1, given Regular)
-    ∷ (2, given Directory)
-    ∷ (3, made block_of (set_at & device_at))
-    ∷ (4, made character_of (set_at & device_at))
-    ∷ (5, given Link)
-    ∷ (6, made Socket set_at)
-    ∷ (7, made Fifo set_at)
+    (1, constant_at Regular)
+    ∷ (2, constant_at Directory)
+    ∷ (3, map_at block_of (set_at & device_at))
+    ∷ (4, map_at character_of (set_at & device_at))
+    ∷ (5, constant_at Link)
+    ∷ (6, map_at Socket set_at)
+    ∷ (7, map_at Fifo set_at)
     ∷ []
 
 node_arm : (n : NodeKind) → HasArm node_row nodes n

@@ -4,7 +4,7 @@ use Rattle.std.proofs.lemmas.List.{drop-drop}
 use Rattle.xdr.specs.Reading.{Cursor, Takes, start, opaque_at}
 use Rattle.xdr.proofs.Opaques.{opaque_forth}
 use Rattle.xdr.proofs.Fronts.{take_front, drop_front}
-use Rattle.nfs_types.specs.Rows.{Item, Spells}
+use Rattle.xdr.specs.Rows.{Item, Spells}
 use Rattle.nfs_wire.specs.Places.{StandsIn}
 use Rattle.std.specs.Prelude.{slice_range, Ok}
 

@@ -13,13 +13,13 @@ fault_place (BadChoice place) = place
 fault_place (Trailing place) = place
 
 -- where a reading is at fault
-abbrev pub place_of : {A : Type 0} → Result A XdrFault → Option ℕ
-place_of (Ok x) = None
-place_of (Err fault) = Some (fault_place fault)
+abbrev pub refusal_place : {A : Type 0} → Result A XdrFault → Option ℕ
+refusal_place (Ok x) = None
+refusal_place (Err fault) = Some (fault_place fault)
 
 abbrev pub Fails : {A : Type 0} → ArgsFault → Result A XdrFault → Type 0
 Fails Memory read = Unit {0}
-Fails (Garbage place) read = place_of read ≡ Some place
+Fails (Garbage place) read = refusal_place read ≡ Some place
 
 -- what was answered, seen by view, is what reading gives
 abbrev pub Gives : {A B : Type 0} → (A → B) → Result A ArgsFault → Result B XdrFault → Type 0

@@ -2,7 +2,7 @@
 use Rattle.std.specs.Prelude.{ℕ, ◌%◌, ◌^◌, ◌==◌, if◌then◌else◌, List, [], ◌∷◌, length}
 use Rattle.tickets.specs.declared.answer.Body.{Body}
 use Rattle.tickets.specs.declared.answer.Body.TheVariants as body
-use Rattle.nfs_types.specs.Rows.{Item, Word}
+use Rattle.xdr.specs.Rows.{Item, Word}
 use Rattle.nfs_wire.specs.Results.{Results, Null, Read, Write, Commit, Refused, flag_item, results_row}
 
 -- The results of an answer. A whole text, and the answer SYSTEM_ERR, have none of their own.

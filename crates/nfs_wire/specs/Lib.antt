@@ -1,7 +1,6 @@
 pub mod Faults
 pub mod Places
 pub mod Arguments
-pub mod Lists
 pub mod Results
 pub mod Views
 pub mod Short

@@ -5,16 +5,16 @@ use Rattle.nfs_wire.specs.declared.res.Res.TheVariants as res
 use Rattle.nfs_wire.specs.declared.res.Entry.{Entry}
 use Rattle.nfs_wire.specs.declared.res.EntryPlus.{EntryPlus}
 use Rattle.nfs_wire.specs.declared.res.Mounted.{Mounted}
-use Rattle.nfs_wire.specs.Results.{Listed, ListedPlus, MountedBy, Results, Null, Getattr, Setattr, Lookup, Access, Readlink, Create, Mkdir, Symlink, Remove, Rmdir, Rename, Readdir, Readdirplus, Fsstat, Fsinfo, Pathconf, MountNull, Mnt, Dump, Umnt, Umntall, Export, Refused}
+use Rattle.nfs_wire.specs.Results.{EntryText, EntryPlusText, MountText, Results, Null, Getattr, Setattr, Lookup, Access, Readlink, Create, Mkdir, Symlink, Remove, Rmdir, Rename, Readdir, Readdirplus, Fsstat, Fsinfo, Pathconf, MountNull, Mnt, Dump, Umnt, Umntall, Export, Refused}
 
-abbrev pub listed : Entry → Listed
-listed e = record { file = e.file; name = e.name.now; cookie = e.cookie }
+abbrev pub entry_view : Entry → EntryText
+entry_view e = record { file = e.file; name = e.name.now; cookie = e.cookie }
 
-abbrev pub listed_plus : EntryPlus → ListedPlus
-listed_plus e = record { entry = listed e.entry; attr = e.attr; handle = e.handle }
+abbrev pub entry_plus_view : EntryPlus → EntryPlusText
+entry_plus_view e = record { entry = entry_view e.entry; attr = e.attr; handle = e.handle }
 
-abbrev pub mounted_by : Mounted → MountedBy
-mounted_by m = record { host = m.host.now; path = m.path.now }
+abbrev pub mount_view : Mounted → MountText
+mount_view m = record { host = m.host.now; path = m.path.now }
 
 abbrev pub results_of : Res → Results
 results_of res.Null = Null
@@ -29,14 +29,14 @@ results_of (res.Symlink handle attr) = Symlink handle attr
 results_of res.Remove = Remove
 results_of res.Rmdir = Rmdir
 results_of res.Rename = Rename
-results_of (res.Readdir verifier entries eof) = Readdir verifier (map listed entries.now) eof
-results_of (res.Readdirplus verifier entries eof) = Readdirplus verifier (map listed_plus entries.now) eof
+results_of (res.Readdir verifier entries eof) = Readdir verifier (map entry_view entries.now) eof
+results_of (res.Readdirplus verifier entries eof) = Readdirplus verifier (map entry_plus_view entries.now) eof
 results_of (res.Fsstat stat) = Fsstat stat
 results_of (res.Fsinfo info) = Fsinfo info
 results_of (res.Pathconf conf) = Pathconf conf
 results_of res.MountNull = MountNull
 results_of (res.Mnt handle) = Mnt handle
-results_of (res.Dump mounts) = Dump (map mounted_by mounts.now)
+results_of (res.Dump mounts) = Dump (map mount_view mounts.now)
 results_of res.Umnt = Umnt
 results_of res.Umntall = Umntall
 results_of (res.Export path) = Export path.now

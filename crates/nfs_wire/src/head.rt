@@ -2,7 +2,7 @@
 ghost use Rattle.std.specs.Prelude.{◌≡◌, ◌+◌, ◌%◌, ◌^◌, ◌≤◌, ◌<◌, ◌++◌, ◌∷◌, [], length};
 ghost use Rattle.arrayvec.specs.ArrayVec.{array_vec_len};
 ghost use Rattle.xdr.specs.Items.{word, long, fixed_text};
-ghost use Rattle.nfs_types.specs.Rows.{Word, text};
+ghost use Rattle.xdr.specs.Rows.{Word, text};
 ghost use Rattle.nfs_wire.specs.Results.{Write, Commit, Refused, flag_item, results_row};
 ghost use Rattle.nfs_wire.specs.Heads.{body_results, body_data, head_row};
 

@@ -1,10 +1,10 @@
 // The items of arguments, from the front of a message.
 ghost use Rattle.std.specs.Prelude.{◌≡◌};
 ghost use Rattle.xdr.specs.Reading.{start, u32_at, u64_at, fixed_at, opaque_at, finish_at};
-ghost use Rattle.nfs_types.specs.Forms.{option_at};
+ghost use Rattle.xdr.specs.Forms.{option_at};
 ghost use Rattle.nfs_types.specs.Types.{time_at, set_at, device_at};
 ghost use Rattle.nfs_wire.specs.Faults.{Gives};
-ghost use Rattle.nfs_wire.specs.Arguments.{handle_at, name_at, path_at, place_at, stable_at, data_at};
+ghost use Rattle.nfs_wire.specs.Arguments.{handle_at, name_at, path_at, dir_op_at, stable_at, data_at};
 ghost use Rattle.nfs_wire.specs.Places.{StandsIn};
 
 use crate::{ArgsFault, DirOp};
@@ -91,9 +91,9 @@ impl<'a> Items<'a> {
     }
 
     /// The handle of a directory and a name.
-    #[tactic(auto, unfolding(crate::specs::Arguments::place_at))]
+    #[tactic(auto, unfolding(crate::specs::Arguments::dir_op_at))]
     pub fn dir_op(&mut self) -> Result<DirOp, ArgsFault>
-        ensures { Gives (λ p. (p, self.new)) result (place_at self.old) }
+        ensures { Gives (λ p. (p, self.new)) result (dir_op_at self.old) }
     {
         let dir = self.handle()?;
         let name = self.opaque(LONGEST_NAME)?;

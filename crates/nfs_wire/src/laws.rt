@@ -1,17 +1,17 @@
 // What the definitions of arguments and results mean. No law has a body: each is a fact of the definitions, which callers
 // cite.
 ghost use Rattle.std.specs.Prelude.{◌≡◌, ◌↔◌, ℕ, List, Ok};
-ghost use Rattle.nfs_types.specs.Rows.{Spells, text, AllFit};
+ghost use Rattle.xdr.specs.Rows.{Spells, text, AllFit};
 ghost use Rattle.nfs_wire.specs.declared.args.Args.{Args};
-ghost use Rattle.nfs_wire.specs.Arguments.{args_row, asked, args_of};
+ghost use Rattle.nfs_wire.specs.Arguments.{args_row, procedure_of, args_of};
 ghost use Rattle.nfs_wire.specs.Results.{Results, results_row, results_at, AnswerOf};
 
 /// Bytes are read as arguments of a procedure exactly where they are its own and the bytes spell them, with any padding.
 /// What is written for arguments, with zero padding, is read again.
 pub fn args_law()
     ensures exact { (prog proc_no : ℕ) (bytes : List ℕ) (a : Args)
-        → (args_of prog proc_no bytes ≡ Ok a) ↔ ((asked a ≡ (prog, proc_no)) × Spells bytes (args_row a)) }
-    ensures again { (a : Args) → AllFit (args_row a) → args_of (asked a).0 (asked a).1 (text (args_row a)) ≡ Ok a }
+        → (args_of prog proc_no bytes ≡ Ok a) ↔ ((procedure_of a ≡ (prog, proc_no)) × Spells bytes (args_row a)) }
+    ensures again { (a : Args) → AllFit (args_row a) → args_of (procedure_of a).0 (procedure_of a).1 (text (args_row a)) ≡ Ok a }
 {}
 
 /// The same for results: each procedure's own, or a refusal with its number of zero words.

@@ -1,11 +1,11 @@
 // Results that list entries of a directory, or what is mounted.
 ghost use Rattle.std.specs.Prelude.{◌≡◌, map, OnOk};
 ghost use Rattle.std.specs.List.{AllByRecursion};
-ghost use Rattle.nfs_types.specs.Rows.{written};
-ghost use Rattle.nfs_wire.specs.Lists.{list_row};
-ghost use Rattle.nfs_wire.specs.Results.{Readdir, Readdirplus, Mnt, Dump, Export, listed_row, plus_row, mounted_row, results_row};
+ghost use Rattle.xdr.specs.Rows.{joined_text};
+ghost use Rattle.xdr.specs.Lists.{list_row};
+ghost use Rattle.nfs_wire.specs.Results.{Readdir, Readdirplus, Mnt, Dump, Export, entry_row, entry_plus_row, mount_row, results_row};
 ghost use Rattle.nfs_wire.specs.Short.{IsShort, HasShortName, HasShortNamePlus, IsShortMount};
-ghost use Rattle.nfs_wire.specs.Views.{listed, listed_plus, mounted_by};
+ghost use Rattle.nfs_wire.specs.Views.{entry_view, entry_plus_view, mount_view};
 
 use crate::put_attr::put_present;
 use crate::put_words::put_zeros;
@@ -19,8 +19,8 @@ pub fn put_readdir(
     entries: &[Entry<'_>],
     eof: bool,
 ) -> Result<(), NoMemory>
-    ensures ok { OnOk result (writer.new ≡ written writer.old (results_row (Readdir verifier.now (map listed entries.now) eof))) }
-    ensures short { OnOk result (AllByRecursion HasShortName (map listed entries.now)) }
+    ensures ok { OnOk result (writer.new ≡ joined_text writer.old (results_row (Readdir verifier.now (map entry_view entries.now) eof))) }
+    ensures short { OnOk result (AllByRecursion HasShortName (map entry_view entries.now)) }
 {
     put_zeros(writer, 2)?;
     writer.put_fixed(verifier)?;
@@ -35,8 +35,8 @@ pub fn put_readdirplus(
     entries: &[EntryPlus<'_>],
     eof: bool,
 ) -> Result<(), NoMemory>
-    ensures ok { OnOk result (writer.new ≡ written writer.old (results_row (Readdirplus verifier.now (map listed_plus entries.now) eof))) }
-    ensures short { OnOk result (AllByRecursion HasShortNamePlus (map listed_plus entries.now)) }
+    ensures ok { OnOk result (writer.new ≡ joined_text writer.old (results_row (Readdirplus verifier.now (map entry_plus_view entries.now) eof))) }
+    ensures short { OnOk result (AllByRecursion HasShortNamePlus (map entry_plus_view entries.now)) }
 {
     put_zeros(writer, 2)?;
     writer.put_fixed(verifier)?;
@@ -46,8 +46,8 @@ pub fn put_readdirplus(
 
 #[tactic(auto, unfolding(xdr::specs::Items::bool_text))]
 fn put_entries(writer: &mut Writer, entries: &[Entry<'_>]) -> Result<(), NoMemory>
-    ensures ok { OnOk result (writer.new ≡ written writer.old (list_row listed_row (map listed entries.now))) }
-    ensures short { OnOk result (AllByRecursion HasShortName (map listed entries.now)) }
+    ensures ok { OnOk result (writer.new ≡ joined_text writer.old (list_row entry_row (map entry_view entries.now))) }
+    ensures short { OnOk result (AllByRecursion HasShortName (map entry_view entries.now)) }
 {
     for entry in entries {
         writer.put_bool(true)?;
@@ -57,7 +57,7 @@ fn put_entries(writer: &mut Writer, entries: &[Entry<'_>]) -> Result<(), NoMemor
 }
 
 fn put_entry(writer: &mut Writer, entry: &Entry<'_>) -> Result<(), NoMemory>
-    ensures ok { OnOk result (writer.new ≡ written writer.old (listed_row (listed entry.now))) }
+    ensures ok { OnOk result (writer.new ≡ joined_text writer.old (entry_row (entry_view entry.now))) }
     ensures short { OnOk result (IsShort entry.now.name.now) }
 {
     writer.put_u64(entry.file)?;
@@ -67,8 +67,8 @@ fn put_entry(writer: &mut Writer, entry: &Entry<'_>) -> Result<(), NoMemory>
 
 #[tactic(auto, unfolding(xdr::specs::Items::bool_text))]
 fn put_entries_plus(writer: &mut Writer, entries: &[EntryPlus<'_>]) -> Result<(), NoMemory>
-    ensures ok { OnOk result (writer.new ≡ written writer.old (list_row plus_row (map listed_plus entries.now))) }
-    ensures short { OnOk result (AllByRecursion HasShortNamePlus (map listed_plus entries.now)) }
+    ensures ok { OnOk result (writer.new ≡ joined_text writer.old (list_row entry_plus_row (map entry_plus_view entries.now))) }
+    ensures short { OnOk result (AllByRecursion HasShortNamePlus (map entry_plus_view entries.now)) }
 {
     for plus in entries {
         writer.put_bool(true)?;
@@ -79,7 +79,7 @@ fn put_entries_plus(writer: &mut Writer, entries: &[EntryPlus<'_>]) -> Result<()
 
 #[tactic(auto, unfolding(xdr::specs::Items::bool_text))]
 fn put_entry_plus(writer: &mut Writer, plus: &EntryPlus<'_>) -> Result<(), NoMemory>
-    ensures ok { OnOk result (writer.new ≡ written writer.old (plus_row (listed_plus plus.now))) }
+    ensures ok { OnOk result (writer.new ≡ joined_text writer.old (entry_plus_row (entry_plus_view plus.now))) }
     ensures short { OnOk result (IsShort plus.now.entry.name.now) }
 {
     put_entry(writer, &plus.entry)?;
@@ -90,8 +90,8 @@ fn put_entry_plus(writer: &mut Writer, plus: &EntryPlus<'_>) -> Result<(), NoMem
 
 #[tactic(auto, unfolding(xdr::specs::Items::bool_text))]
 pub fn put_mounts(writer: &mut Writer, mounts: &[Mounted<'_>]) -> Result<(), NoMemory>
-    ensures ok { OnOk result (writer.new ≡ written writer.old (results_row (Dump (map mounted_by mounts.now)))) }
-    ensures short { OnOk result (AllByRecursion IsShortMount (map mounted_by mounts.now)) }
+    ensures ok { OnOk result (writer.new ≡ joined_text writer.old (results_row (Dump (map mount_view mounts.now)))) }
+    ensures short { OnOk result (AllByRecursion IsShortMount (map mount_view mounts.now)) }
 {
     for mounted in mounts {
         writer.put_bool(true)?;
@@ -103,7 +103,7 @@ pub fn put_mounts(writer: &mut Writer, mounts: &[Mounted<'_>]) -> Result<(), NoM
 
 /// A handle and the flavors of credentials that are taken: AUTH_SYS alone.
 pub fn put_mnt(writer: &mut Writer, handle: &[u8; 32]) -> Result<(), NoMemory>
-    ensures { OnOk result (writer.new ≡ written writer.old (results_row (Mnt handle.now))) }
+    ensures { OnOk result (writer.new ≡ joined_text writer.old (results_row (Mnt handle.now))) }
 {
     writer.put_u32(0)?;
     writer.put_opaque(handle)?;
@@ -114,7 +114,7 @@ pub fn put_mnt(writer: &mut Writer, handle: &[u8; 32]) -> Result<(), NoMemory>
 /// The one path that can be mounted, by anybody.
 #[tactic(auto, unfolding(xdr::specs::Items::bool_text))]
 pub fn put_export(writer: &mut Writer, path: &[u8]) -> Result<(), NoMemory>
-    ensures ok { OnOk result (writer.new ≡ written writer.old (results_row (Export path.now))) }
+    ensures ok { OnOk result (writer.new ≡ joined_text writer.old (results_row (Export path.now))) }
     ensures short { OnOk result (IsShort path.now) }
 {
     writer.put_bool(true)?;

@@ -1,6 +1,6 @@
 // Results on a file system whole.
 ghost use Rattle.std.specs.Prelude.{◌≡◌, OnOk};
-ghost use Rattle.nfs_types.specs.Rows.{written};
+ghost use Rattle.xdr.specs.Rows.{joined_text};
 ghost use Rattle.nfs_wire.specs.Results.{Fsstat, Fsinfo, Pathconf, results_row};
 
 use crate::put_words::put_zeros;
@@ -8,7 +8,7 @@ use crate::{FsInfo, FsStat, PathConf};
 use xdr::{NoMemory, Writer};
 
 pub fn put_fsstat(writer: &mut Writer, stat: &FsStat) -> Result<(), NoMemory>
-    ensures { OnOk result (writer.new ≡ written writer.old (results_row (Fsstat stat.now))) }
+    ensures { OnOk result (writer.new ≡ joined_text writer.old (results_row (Fsstat stat.now))) }
 {
     put_zeros(writer, 2)?;
     writer.put_u64(stat.tbytes)?;
@@ -21,7 +21,7 @@ pub fn put_fsstat(writer: &mut Writer, stat: &FsStat) -> Result<(), NoMemory>
 }
 
 pub fn put_fsinfo(writer: &mut Writer, info: &FsInfo) -> Result<(), NoMemory>
-    ensures { OnOk result (writer.new ≡ written writer.old (results_row (Fsinfo info.now))) }
+    ensures { OnOk result (writer.new ≡ joined_text writer.old (results_row (Fsinfo info.now))) }
 {
     put_zeros(writer, 2)?;
     writer.put_u32(info.rtmax)?;
@@ -39,7 +39,7 @@ pub fn put_fsinfo(writer: &mut Writer, info: &FsInfo) -> Result<(), NoMemory>
 
 #[tactic(auto, unfolding(xdr::specs::Items::bool_text))]
 pub fn put_pathconf(writer: &mut Writer, conf: &PathConf) -> Result<(), NoMemory>
-    ensures { OnOk result (writer.new ≡ written writer.old (results_row (Pathconf conf.now))) }
+    ensures { OnOk result (writer.new ≡ joined_text writer.old (results_row (Pathconf conf.now))) }
 {
     put_zeros(writer, 2)?;
     writer.put_u32(conf.linkmax)?;

@@ -1,7 +1,7 @@
 // The bytes behind a call's head as the arguments of its procedure.
 ghost use Rattle.std.specs.Prelude.{◌≡◌};
 ghost use Rattle.xdr.specs.Reading.{start};
-ghost use Rattle.nfs_types.specs.Forms.{arm_at};
+ghost use Rattle.xdr.specs.Forms.{arm_at};
 ghost use Rattle.nfs_wire.specs.Faults.{Gives};
 ghost use Rattle.nfs_wire.specs.Arguments.{nfs_arms, mount_arms, args_of};
 

@@ -1,6 +1,6 @@
 // Results as the bytes behind a reply's head.
 ghost use Rattle.std.specs.Prelude.{◌≡◌, OnOk, IfOk};
-ghost use Rattle.nfs_types.specs.Rows.{written, text};
+ghost use Rattle.xdr.specs.Rows.{joined_text, text};
 ghost use Rattle.nfs_wire.specs.Results.{results_row};
 ghost use Rattle.nfs_wire.specs.Views.{results_of};
 ghost use Rattle.nfs_wire.specs.Short.{CanBeSpelled};
@@ -28,7 +28,7 @@ pub fn res_text(alloc: Global, res: &Res<'_>) -> Result<Vec<u8>, NoMemory>
 }
 
 fn put_results(writer: &mut Writer, res: &Res<'_>) -> Result<(), xdr::NoMemory>
-    ensures ok { OnOk result (writer.new ≡ written writer.old (results_row (results_of res.now))) }
+    ensures ok { OnOk result (writer.new ≡ joined_text writer.old (results_row (results_of res.now))) }
     ensures short { OnOk result (CanBeSpelled (results_of res.now)) }
 {
     match *res {

@@ -10,7 +10,7 @@ use Rattle.xdr.proofs.Numbers.{done, enough, u32_forth, u32_back}
 use Rattle.xdr.proofs.Opaques.{opaque_forth, opaque_back, finish_forth, finish_back}
 use Rattle.rpc_msg.specs.declared.fault.CallFault.{CallFault}
 use Rattle.rpc_msg.specs.declared.fault.CallFault.TheVariants.{NotCall, RpcMismatch, RejectedCred, Short}
-use Rattle.rpc_msg.specs.Calls.{◌>>=◌, SenderText, CallText, nobody, words_at, groups_at, system_sender, or_bad_cred, sender_of, or_short, part_at, or_auth, auth_at, body_of, call_of}
+use Rattle.rpc_msg.specs.Calls.{◌>>=◌, SenderText, CallText, nobody, words_at, groups_at, system_sender, or_bad_cred, sender_of, or_short, call_word_at, or_auth, call_opaque_at, call_body_at, call_of}
 use Rattle.rpc_msg.specs.Spellings.{Then, SpellsWords, AtEnd, SpellsSystem, SpellsSender, SpellsParts, SpellsCall}
 
 -- a chain that was done: its first step was done, and so was the rest
@@ -28,19 +28,19 @@ chain : {A B E : Type 0} (r : Result A E) (f : A → Result B E) (x : A) (y : B)
 chain (Ok z) f x y e h = let same : z ≡ x = cc in ap f same ∙ h
 chain (Err fault) f x y e h = cc
 
-part_forth : (c : Cursor) (p : ℕ × Cursor) → part_at c ≡ Ok p → Takes SpellsU32 c p.0 p.1
-unfolding part_at
+part_forth : (c : Cursor) (p : ℕ × Cursor) → call_word_at c ≡ Ok p → Takes SpellsU32 c p.0 p.1
+unfolding call_word_at
 part_forth c p e = u32_forth c p.1 p.0 (go (u32_at c) e) where
   go : (r : Reading ℕ) → or_short r ≡ Ok p → r ≡ Ok (p.0, p.1)
   go (Ok x) h = let same : x ≡ p = cc in ap (λ (k : ℕ × Cursor). Ok k) same
   go (Err fault) h = cc
 
-part_back : (c to : Cursor) (n : ℕ) → Takes SpellsU32 c n to → part_at c ≡ Ok (n, to)
-unfolding part_at
+part_back : (c to : Cursor) (n : ℕ) → Takes SpellsU32 c n to → call_word_at c ≡ Ok (n, to)
+unfolding call_word_at
 part_back c to n t = ap (λ (r : Reading ℕ). or_short r) (u32_back c to n t)
 
-auth_forth : (id : ℕ) (c : Cursor) (p : List ℕ × Cursor) → auth_at id c ≡ Ok p → (length p.0 ≤ 400) × Takes SpellsOpaque c p.0 p.1
-unfolding auth_at
+auth_forth : (id : ℕ) (c : Cursor) (p : List ℕ × Cursor) → call_opaque_at id c ≡ Ok p → (length p.0 ≤ 400) × Takes SpellsOpaque c p.0 p.1
+unfolding call_opaque_at
 auth_forth id c p e = opaque_forth 400 c p.1 p.0 (go (opaque_at 400 c) e) where
   go : (r : Reading (List ℕ)) → or_auth id r ≡ Ok p → r ≡ Ok (p.0, p.1)
   go (Ok x) h = let same : x ≡ p = cc in ap (λ (k : List ℕ × Cursor). Ok k) same
@@ -50,8 +50,8 @@ auth_forth id c p e = opaque_forth 400 c p.1 p.0 (go (opaque_at 400 c) e) where
   go (Err (xdr.BadChoice place)) h = cc
   go (Err (xdr.Trailing place)) h = cc
 
-auth_back : (id : ℕ) (c to : Cursor) (v : List ℕ) → length v ≤ 400 → Takes SpellsOpaque c v to → auth_at id c ≡ Ok (v, to)
-unfolding auth_at
+auth_back : (id : ℕ) (c to : Cursor) (v : List ℕ) → length v ≤ 400 → Takes SpellsOpaque c v to → call_opaque_at id c ≡ Ok (v, to)
+unfolding call_opaque_at
 auth_back id c to v few t = ap (λ (r : Reading (List ℕ)). or_auth id r) (opaque_back 400 c to v (few, t))
 
 -- what was taken and what follows are a spelling
@@ -215,7 +215,7 @@ abbrev made : ℕ → ℕ → ℕ → ℕ → SenderText → List ℕ → CallTe
 made id prog vers proc_no s args = record { xid = id; prog = prog; vers = vers; proc_no = proc_no; sender = s; args = args }
 
 made_parts : (id prog vers proc_no flavor kind : ℕ) (cred verf : List ℕ) (s : SenderText) (c c1 c2 c3 c4 c5 c6 c7 : Cursor)
-    → part_at c ≡ Ok (prog, c1) → part_at c1 ≡ Ok (vers, c2) → part_at c2 ≡ Ok (proc_no, c3) → part_at c3 ≡ Ok (flavor, c4) → auth_at id c4 ≡ Ok (cred, c5) → part_at c5 ≡ Ok (kind, c6) → auth_at id c6 ≡ Ok (verf, c7) → sender_of id flavor cred ≡ Ok s
+    → call_word_at c ≡ Ok (prog, c1) → call_word_at c1 ≡ Ok (vers, c2) → call_word_at c2 ≡ Ok (proc_no, c3) → call_word_at c3 ≡ Ok (flavor, c4) → call_opaque_at id c4 ≡ Ok (cred, c5) → call_word_at c5 ≡ Ok (kind, c6) → call_opaque_at id c6 ≡ Ok (verf, c7) → sender_of id flavor cred ≡ Ok s
     → Parted id c (made id prog vers proc_no s c7.left)
 made_parts id prog vers proc_no flavor kind cred verf s c c1 c2 c3 c4 c5 c6 c7 e1 e2 e3 e4 e5 e6 e7 e8 =
     let a = auth_forth id c4 (cred, c5) e5 in
@@ -232,29 +232,29 @@ made_parts id prog vers proc_no flavor kind cred verf s c c1 c2 c3 c4 c5 c6 c7 e
       text = then_forth SpellsU32 prog _ c c1 (part_forth c (prog, c1) e1) (then_forth SpellsU32 vers _ c1 c2 (part_forth c1 (vers, c2) e2) (then_forth SpellsU32 proc_no _ c2 c3 (part_forth c2 (proc_no, c3) e3) (then_forth SpellsU32 flavor _ c3 c4 (part_forth c3 (flavor, c4) e4) (then_forth SpellsOpaque cred _ c4 c5 a.1 (then_forth SpellsU32 kind _ c5 c6 (part_forth c5 (kind, c6) e6) (then_forth SpellsOpaque verf _ c6 c7 b.1 refl))))));
     }
 
-body_forth : (id : ℕ) (c : Cursor) (call : CallText) → body_of id c ≡ Ok call → Parted id c call
-unfolding body_of
+body_forth : (id : ℕ) (c : Cursor) (call : CallText) → call_body_at id c ≡ Ok call → Parted id c call
+unfolding call_body_at
 body_forth id c call e =
-    let prog = step (part_at c) _ _ e in
-    let vers = step (part_at prog.value.1) _ _ prog.then_on in
-    let proc_no = step (part_at vers.value.1) _ _ vers.then_on in
-    let flavor = step (part_at proc_no.value.1) _ _ proc_no.then_on in
-    let cred = step (auth_at id flavor.value.1) _ _ flavor.then_on in
-    let kind = step (part_at cred.value.1) _ _ cred.then_on in
-    let verf = step (auth_at id kind.value.1) _ _ kind.then_on in
+    let prog = step (call_word_at c) _ _ e in
+    let vers = step (call_word_at prog.value.1) _ _ prog.then_on in
+    let proc_no = step (call_word_at vers.value.1) _ _ vers.then_on in
+    let flavor = step (call_word_at proc_no.value.1) _ _ proc_no.then_on in
+    let cred = step (call_opaque_at id flavor.value.1) _ _ flavor.then_on in
+    let kind = step (call_word_at cred.value.1) _ _ cred.then_on in
+    let verf = step (call_opaque_at id kind.value.1) _ _ kind.then_on in
     let s = step (sender_of id flavor.value.0 cred.value.0) _ _ verf.then_on in
     let same = done_call (made id prog.value.0 vers.value.0 proc_no.value.0 s.value verf.value.1.left) call Short s.then_on in
     subst (λ (k : CallText). Parted id c k) same
     (made_parts id prog.value.0 vers.value.0 proc_no.value.0 flavor.value.0 kind.value.0 cred.value.0 verf.value.0 s.value c prog.value.1 vers.value.1 proc_no.value.1 flavor.value.1 cred.value.1 kind.value.1 verf.value.1 prog.first vers.first proc_no.first flavor.first cred.first kind.first verf.first s.first)
 
-part_there : (c : Cursor) (n : ℕ) (front rest : List ℕ) → c.left ≡ front ++ rest → SpellsU32 front n → part_at c ≡ Ok (n, after c front rest)
+part_there : (c : Cursor) (n : ℕ) (front rest : List ℕ) → c.left ≡ front ++ rest → SpellsU32 front n → call_word_at c ≡ Ok (n, after c front rest)
 part_there c n front rest e s = part_back c (after c front rest) n (then_takes SpellsU32 n c front rest e s)
 
-auth_there : (id : ℕ) (c : Cursor) (v front rest : List ℕ) → length v ≤ 400 → c.left ≡ front ++ rest → SpellsOpaque front v → auth_at id c ≡ Ok (v, after c front rest)
+auth_there : (id : ℕ) (c : Cursor) (v front rest : List ℕ) → length v ≤ 400 → c.left ≡ front ++ rest → SpellsOpaque front v → call_opaque_at id c ≡ Ok (v, after c front rest)
 auth_there id c v front rest few e s = auth_back id c (after c front rest) v few (then_takes SpellsOpaque v c front rest e s)
 
-body_back : (id : ℕ) (c : Cursor) (call : CallText) → Parted id c call → body_of id c ≡ Ok call
-unfolding body_of
+body_back : (id : ℕ) (c : Cursor) (call : CallText) → Parted id c call → call_body_at id c ≡ Ok call
+unfolding call_body_at
 body_back id c call p =
     let t1 = p.text in
     let c1 = after c t1.0 t1.1 in
@@ -271,13 +271,13 @@ body_back id c call p =
     let t7 = t6.4 in
     let c7 = after c6 t7.0 t7.1 in
     let same : made id call.prog call.vers call.proc_no call.sender t7.1 ≡ call = ap (λ (k : ℕ). made k call.prog call.vers call.proc_no call.sender t7.1) p.xid ∙ ap (λ (k : List ℕ). made call.xid call.prog call.vers call.proc_no call.sender k) t7.4 in
-    chain (part_at c) _ (call.prog, c1) call (part_there c call.prog t1.0 t1.1 t1.2 t1.3)
-    (chain (part_at c1) _ (call.vers, c2) call (part_there c1 call.vers t2.0 t2.1 t2.2 t2.3)
-    (chain (part_at c2) _ (call.proc_no, c3) call (part_there c2 call.proc_no t3.0 t3.1 t3.2 t3.3)
-    (chain (part_at c3) _ (p.flavor, c4) call (part_there c3 p.flavor t4.0 t4.1 t4.2 t4.3)
-    (chain (auth_at id c4) _ (p.cred, c5) call (auth_there id c4 p.cred t5.0 t5.1 p.short_cred t5.2 t5.3)
-    (chain (part_at c5) _ (p.kind, c6) call (part_there c5 p.kind t6.0 t6.1 t6.2 t6.3)
-    (chain (auth_at id c6) _ (p.verf, c7) call (auth_there id c6 p.verf t7.0 t7.1 p.short_verf t7.2 t7.3)
+    chain (call_word_at c) _ (call.prog, c1) call (part_there c call.prog t1.0 t1.1 t1.2 t1.3)
+    (chain (call_word_at c1) _ (call.vers, c2) call (part_there c1 call.vers t2.0 t2.1 t2.2 t2.3)
+    (chain (call_word_at c2) _ (call.proc_no, c3) call (part_there c2 call.proc_no t3.0 t3.1 t3.2 t3.3)
+    (chain (call_word_at c3) _ (p.flavor, c4) call (part_there c3 p.flavor t4.0 t4.1 t4.2 t4.3)
+    (chain (call_opaque_at id c4) _ (p.cred, c5) call (auth_there id c4 p.cred t5.0 t5.1 p.short_cred t5.2 t5.3)
+    (chain (call_word_at c5) _ (p.kind, c6) call (part_there c5 p.kind t6.0 t6.1 t6.2 t6.3)
+    (chain (call_opaque_at id c6) _ (p.verf, c7) call (auth_there id c6 p.verf t7.0 t7.1 p.short_verf t7.2 t7.3)
     (chain (sender_of id p.flavor p.cred) _ call.sender call (sender_back id p.flavor p.cred call.sender p.sender_is) (ap (λ (k : CallText). Ok k) same))))))))
 
 kind_forth : (n : ℕ) (c d : Cursor) → cond (n == 0) (Ok c) (Err NotCall) ≡ Ok d → (n ≡ 0) × (c ≡ d)
@@ -292,7 +292,7 @@ version_forth id n c d e = go (n == 2) refl e where
   go true p h = (is_number n 2 p, done_call c d Short h)
   go false p h = cc
 
-called_parts : (bytes : List ℕ) (id kind vers : ℕ) (c1 c2 c3 : Cursor) (call : CallText) → part_at (start bytes) ≡ Ok (id, c1) → part_at c1 ≡ Ok (kind, c2) → kind ≡ 0 → part_at c2 ≡ Ok (vers, c3) → vers ≡ 2 → Parted id c3 call → SpellsCall bytes call
+called_parts : (bytes : List ℕ) (id kind vers : ℕ) (c1 c2 c3 : Cursor) (call : CallText) → call_word_at (start bytes) ≡ Ok (id, c1) → call_word_at c1 ≡ Ok (kind, c2) → kind ≡ 0 → call_word_at c2 ≡ Ok (vers, c3) → vers ≡ 2 → Parted id c3 call → SpellsCall bytes call
 called_parts bytes id kind vers c1 c2 c3 call e1 e2 k e3 v p =
     record {
       flavor = p.flavor;
@@ -308,14 +308,14 @@ called_parts bytes id kind vers c1 c2 c3 call e1 e2 k e3 v p =
 pub call_forth : (bytes : List ℕ) (call : CallText) → call_of bytes ≡ Ok call → SpellsCall bytes call
 unfolding call_of
 call_forth bytes call e =
-    let id = step (part_at (start bytes)) _ _ e in
-    let kind = step (part_at id.value.1) _ _ id.then_on in
+    let id = step (call_word_at (start bytes)) _ _ e in
+    let kind = step (call_word_at id.value.1) _ _ id.then_on in
     let called = step (cond (kind.value.0 == 0) (Ok kind.value.1) (Err NotCall)) _ _ kind.then_on in
-    let vers = step (part_at called.value) _ _ called.then_on in
+    let vers = step (call_word_at called.value) _ _ called.then_on in
     let behind = step (cond (vers.value.0 == 2) (Ok vers.value.1) (Err (RpcMismatch id.value.0))) _ _ vers.then_on in
     let k = kind_forth kind.value.0 kind.value.1 called.value called.first in
     let v = version_forth id.value.0 vers.value.0 vers.value.1 behind.value behind.first in
-    let e3 : part_at kind.value.1 ≡ Ok (vers.value.0, behind.value) = ap part_at k.1 ∙ vers.first ∙ ap (λ (c : Cursor). Ok (vers.value.0, c)) v.1 in
+    let e3 : call_word_at kind.value.1 ≡ Ok (vers.value.0, behind.value) = ap call_word_at k.1 ∙ vers.first ∙ ap (λ (c : Cursor). Ok (vers.value.0, c)) v.1 in
     called_parts bytes id.value.0 kind.value.0 vers.value.0 id.value.1 kind.value.1 behind.value call id.first kind.first k.0 e3 v.0 (body_forth id.value.0 behind.value call behind.then_on)
 
 pub call_back : (bytes : List ℕ) (call : CallText) → SpellsCall bytes call → call_of bytes ≡ Ok call
@@ -329,6 +329,6 @@ call_back bytes call s =
     let t3 = t2.4 in
     let c3 = after c2 t3.0 t3.1 in
     let p : Parted call.xid c3 call = record { xid = refl; flavor = s.flavor; cred = s.cred; kind = s.kind; verf = s.verf; short_cred = s.short_cred; short_verf = s.short_verf; sender_is = s.sender; text = t3.4 } in
-    chain (part_at c0) _ (call.xid, c1) call (part_there c0 call.xid t1.0 t1.1 t1.2 t1.3)
-    (chain (part_at c1) _ (0, c2) call (part_there c1 0 t2.0 t2.1 t2.2 t2.3)
-    (chain (part_at c2) _ (2, c3) call (part_there c2 2 t3.0 t3.1 t3.2 t3.3) (body_back call.xid c3 call p)))
+    chain (call_word_at c0) _ (call.xid, c1) call (part_there c0 call.xid t1.0 t1.1 t1.2 t1.3)
+    (chain (call_word_at c1) _ (0, c2) call (part_there c1 0 t2.0 t2.1 t2.2 t2.3)
+    (chain (call_word_at c2) _ (2, c3) call (part_there c2 2 t3.0 t3.1 t3.2 t3.3) (body_back call.xid c3 call p)))

@@ -71,8 +71,8 @@ abbrev pub or_short : {A : Type 0} → Result A XdrFault → Result A CallFault
 or_short (Ok x) = Ok x
 or_short (Err fault) = Err Short
 
-unfoldable pub part_at : Cursor → Result (ℕ × Cursor) CallFault
-part_at c = or_short (u32_at c)
+unfoldable pub call_word_at : Cursor → Result (ℕ × Cursor) CallFault
+call_word_at c = or_short (u32_at c)
 
 -- an opaque of a credential or a verifier, of at most 400 bytes
 abbrev pub or_auth : {A : Type 0} → ℕ → Result A XdrFault → Result A CallFault
@@ -80,28 +80,28 @@ or_auth xid (Ok x) = Ok x
 or_auth xid (Err (xdr.TooLong place)) = Err (BadCred xid)
 or_auth xid (Err _) = Err Short
 
-unfoldable pub auth_at : ℕ → Cursor → Result (List ℕ × Cursor) CallFault
-auth_at xid c = or_auth xid (opaque_at 400 c)
+unfoldable pub call_opaque_at : ℕ → Cursor → Result (List ℕ × Cursor) CallFault
+call_opaque_at xid c = or_auth xid (opaque_at 400 c)
 
 -- what stands behind the version of the protocol
-unfoldable pub body_of : ℕ → Cursor → Result CallText CallFault
-body_of xid c = do
-  prog ← part_at c
-  vers ← part_at prog.1
-  proc_no ← part_at vers.1
-  flavor ← part_at proc_no.1
-  cred ← auth_at xid flavor.1
-  kind ← part_at cred.1
-  verf ← auth_at xid kind.1
+unfoldable pub call_body_at : ℕ → Cursor → Result CallText CallFault
+call_body_at xid c = do
+  prog ← call_word_at c
+  vers ← call_word_at prog.1
+  proc_no ← call_word_at vers.1
+  flavor ← call_word_at proc_no.1
+  cred ← call_opaque_at xid flavor.1
+  kind ← call_word_at cred.1
+  verf ← call_opaque_at xid kind.1
   sender ← sender_of xid flavor.0 cred.0
   Ok (record { xid = xid; prog = prog.0; vers = vers.0; proc_no = proc_no.0; sender = sender; args = verf.1.left })
 
 -- the message as a call: the faults in the order of the bytes, and then those of the credential
 unfoldable pub call_of : List ℕ → Result CallText CallFault
 call_of bytes = do
-  xid ← part_at (start bytes)
-  kind ← part_at xid.1
+  xid ← call_word_at (start bytes)
+  kind ← call_word_at xid.1
   called ← (if kind.0 == 0 then Ok kind.1 else Err NotCall)
-  vers ← part_at called
+  vers ← call_word_at called
   behind ← (if vers.0 == 2 then Ok vers.1 else Err (RpcMismatch xid.0))
-  body_of xid.0 behind
+  call_body_at xid.0 behind

@@ -1,5 +1,4 @@
 pub mod Calls
 pub mod Views
-pub mod Told
 pub mod Replies
 pub mod Spellings

@@ -1,8 +1,8 @@
 // The parts of a call, where they lie in the message.
-ghost use Rattle.std.specs.Prelude.{◌≡◌, IfOk, IfErr, Ok, Err};
+ghost use Rattle.std.specs.Prelude.{◌≡◌, ◌≤◌, IfOk, IfErr, Ok, Err};
 ghost use Rattle.xdr.specs.Reading.{start};
-ghost use Rattle.rpc_msg.specs.Calls.{part_at, auth_at, body_of, call_of};
-ghost use Rattle.rpc_msg.specs.Told.{told_call};
+ghost use Rattle.rpc_msg.specs.Calls.{call_word_at, call_opaque_at, call_body_at, call_of};
+ghost use Rattle.rpc_msg.specs.Views.{parts_view};
 
 use crate::CallFault;
 use crate::sender::{Sender, read_sender};
@@ -28,7 +28,8 @@ const LONGEST_AUTH: u32 = 400;
 /// Reads a message as a call. It takes no memory.
 #[tactic(auto, unfolding(crate::specs::Calls::call_of))]
 pub fn read_parts(message: &[u8]) -> Result<Parts<'_>, CallFault>
-    ensures ok { IfOk result (λ p. call_of message.now ≡ Ok (told_call p)) }
+    ensures ok { IfOk result (λ p. call_of message.now ≡ Ok (parts_view p)) }
+    ensures few { IfOk result (λ p. p.sender.caller.gid_count ≤ 16) }
     ensures err { IfErr result (λ fault. call_of message.now ≡ Err fault) }
 {
     let mut reader = Reader::new(message);
@@ -44,10 +45,11 @@ pub fn read_parts(message: &[u8]) -> Result<Parts<'_>, CallFault>
     body(&mut reader, xid)
 }
 
-#[tactic(auto, unfolding(crate::specs::Calls::body_of))]
+#[tactic(auto, unfolding(crate::specs::Calls::call_body_at))]
 fn body<'a>(reader: &mut Reader<'a>, xid: u32) -> Result<Parts<'a>, CallFault>
-    ensures ok { IfOk result (λ p. body_of xid reader.old ≡ Ok (told_call p)) }
-    ensures err { IfErr result (λ fault. body_of xid reader.old ≡ Err fault) }
+    ensures ok { IfOk result (λ p. call_body_at xid reader.old ≡ Ok (parts_view p)) }
+    ensures few { IfOk result (λ p. p.sender.caller.gid_count ≤ 16) }
+    ensures err { IfErr result (λ fault. call_body_at xid reader.old ≡ Err fault) }
 {
     let prog = part(reader)?;
     let vers = part(reader)?;
@@ -67,19 +69,19 @@ fn body<'a>(reader: &mut Reader<'a>, xid: u32) -> Result<Parts<'a>, CallFault>
     })
 }
 
-#[tactic(auto, unfolding(crate::specs::Calls::part_at))]
+#[tactic(auto, unfolding(crate::specs::Calls::call_word_at))]
 fn part(reader: &mut Reader<'_>) -> Result<u32, CallFault>
-    ensures ok { IfOk result (λ n. part_at reader.old ≡ Ok (n, reader.new)) }
-    ensures err { IfErr result (λ fault. part_at reader.old ≡ Err fault) }
+    ensures ok { IfOk result (λ n. call_word_at reader.old ≡ Ok (n, reader.new)) }
+    ensures err { IfErr result (λ fault. call_word_at reader.old ≡ Err fault) }
 {
     reader.take_u32().map_err(|_| CallFault::Short)
 }
 
 // The opaque of a credential or a verifier.
-#[tactic(auto, unfolding(crate::specs::Calls::auth_at))]
+#[tactic(auto, unfolding(crate::specs::Calls::call_opaque_at))]
 fn auth<'a>(reader: &mut Reader<'a>, xid: u32) -> Result<&'a [u8], CallFault>
-    ensures ok { IfOk result (λ v. auth_at xid reader.old ≡ Ok (v.now, reader.new)) }
-    ensures err { IfErr result (λ fault. auth_at xid reader.old ≡ Err fault) }
+    ensures ok { IfOk result (λ v. call_opaque_at xid reader.old ≡ Ok (v.now, reader.new)) }
+    ensures err { IfErr result (λ fault. call_opaque_at xid reader.old ≡ Err fault) }
 {
     match reader.take_opaque(LONGEST_AUTH) {
         Ok(body) => Ok(body),

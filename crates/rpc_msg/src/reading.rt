@@ -1,5 +1,5 @@
 // A message as a call.
-ghost use Rattle.std.specs.Prelude.{◌≡◌, ◌≢◌, ℕ, IfOk, Ok, Err};
+ghost use Rattle.std.specs.Prelude.{◌≡◌, ◌≢◌, ◌≤◌, ℕ, IfOk, Ok, Err};
 ghost use Rattle.rpc_msg.specs.declared.fault.CallFault.{CallFault};
 ghost use Rattle.rpc_msg.specs.Calls.{CallText, call_of};
 ghost use Rattle.rpc_msg.specs.Views.{call_view};
@@ -14,6 +14,7 @@ use std::alloc::Global;
 pub fn read_call(alloc: Global, message: Bytes) -> Result<Call, CallFault>
     ensures ok { IfOk result (λ call. call_of message ≡ Ok (call_view call)) }
     ensures whole { IfOk result (λ call. call.whole ≡ message) }
+    ensures few { IfOk result (λ call. call.caller.gid_count ≤ 16) }
     ensures fault { (fault : CallFault) → result ≡ Err fault → ((xid : ℕ) → fault ≢ CallFault.Memory xid)
         → call_of message ≡ Err fault }
     ensures memory { (xid : ℕ) → result ≡ Err (CallFault.Memory xid)

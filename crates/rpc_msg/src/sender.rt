@@ -1,7 +1,7 @@
 // The credential of a call.
 ghost use Rattle.std.specs.Prelude.{◌≡◌, ◌≤◌, take, IfOk, IfErr, Ok, Err};
 ghost use Rattle.rpc_msg.specs.Calls.{words_at, groups_at, system_sender, sender_of};
-ghost use Rattle.rpc_msg.specs.Told.{told_groups, told_sender};
+ghost use Rattle.rpc_msg.specs.Views.{groups_view, lent_sender_view};
 
 use crate::{CallFault, Caller};
 use xdr::{Reader, XdrFault};
@@ -34,7 +34,8 @@ const NOBODY: Caller = Caller {
 /// Who calls, by the flavor and the body of the credential.
 #[tactic(auto, unfolding(crate::specs::Calls::sender_of))]
 pub fn read_sender(xid: u32, flavor: u32, body: &[u8]) -> Result<Sender<'_>, CallFault>
-    ensures ok { IfOk result (λ s. sender_of xid flavor body.now ≡ Ok (told_sender s)) }
+    ensures ok { IfOk result (λ s. sender_of xid flavor body.now ≡ Ok (lent_sender_view s)) }
+    ensures few { IfOk result (λ s. s.caller.gid_count ≤ 16) }
     ensures err { IfErr result (λ fault. sender_of xid flavor body.now ≡ Err fault) }
 {
     match flavor {
@@ -50,7 +51,8 @@ pub fn read_sender(xid: u32, flavor: u32, body: &[u8]) -> Result<Sender<'_>, Cal
 // The body of AUTH_SYS.
 #[tactic(auto, unfolding(crate::specs::Calls::system_sender))]
 fn system(body: &[u8]) -> Result<Sender<'_>, XdrFault>
-    ensures ok { IfOk result (λ s. system_sender body.now ≡ Ok (told_sender s)) }
+    ensures ok { IfOk result (λ s. system_sender body.now ≡ Ok (lent_sender_view s)) }
+    ensures few { IfOk result (λ s. s.caller.gid_count ≤ 16) }
     ensures err { IfErr result (λ fault. system_sender body.now ≡ Err fault) }
 {
     let mut reader = Reader::new(body);
@@ -73,7 +75,8 @@ fn system(body: &[u8]) -> Result<Sender<'_>, XdrFault>
 // A count, and as many groups.
 #[tactic(auto, unfolding(crate::specs::Calls::groups_at))]
 fn read_groups(reader: &mut Reader<'_>) -> Result<Groups, XdrFault>
-    ensures ok { IfOk result (λ g. groups_at reader.old ≡ Ok (told_groups g, reader.new)) }
+    ensures ok { IfOk result (λ g. groups_at reader.old ≡ Ok (groups_view g, reader.new)) }
+    ensures few { IfOk result (λ g. g.count ≤ 16) }
     ensures err { IfErr result (λ fault. groups_at reader.old ≡ Err fault) }
 {
     let place = reader.place();

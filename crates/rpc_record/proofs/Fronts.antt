@@ -6,7 +6,7 @@ use Rattle.std.proofs.lemmas.List.{take-append-drop, length-take-le, take-append
 use Rattle.std.proofs.Math.Seq.{take-append_seam, drop-append_seam}
 use Rattle.rpc_record.specs.declared.fault.FrameFault.{FrameFault}
 use Rattle.rpc_record.specs.declared.fault.FrameFault.TheVariants.{TooLong}
-use Rattle.rpc_record.specs.Records.{record_max, header, fragment_len, is_last, body, behind, Front, Open, Fault, Whole, front, front_from, SpellsFrom, SpellsRecord}
+use Rattle.rpc_record.specs.Records.{record_max, header, fragment_len, is_last, fragment_body, bytes_behind, Front, Open, Fault, Whole, front, front_from, SpellsFrom, SpellsRecord}
 use Rattle.rpc_record.proofs.Steps.{open_short, too_many, too_long, open_cut, whole_last, front_more}
 use Rattle.rpc_record.proofs.Scanning.{Joining, some_left, some_room, some_body, join_last, join_more}
 
@@ -20,12 +20,12 @@ len_front xs ys h = ap (λ (k : List ℕ). from_be_bytes w32 k % 2 ^ 31) (take-a
 last_front : (xs ys : List ℕ) → 4 ≤ length xs → is_last (xs ++ ys) ≡ is_last xs
 last_front xs ys h = ap (λ (k : List ℕ). nat_le (2 ^ 31) (from_be_bytes w32 k)) (take-append-le 4 xs ys h)
 
-body_front : (xs ys : List ℕ) → 4 + fragment_len xs ≤ length xs → body (xs ++ ys) ≡ body xs
+body_front : (xs ys : List ℕ) → 4 + fragment_len xs ≤ length xs → fragment_body (xs ++ ys) ≡ fragment_body xs
 body_front xs ys h =
     let four : 4 ≤ length xs = omega arith in
     ap (λ (k : ℕ). take k (drop 4 (xs ++ ys))) (len_front xs ys four) ∙ ap (λ (k : List ℕ). take (fragment_len xs) k) (drop-append-le 4 xs ys four) ∙ take-append-le (fragment_len xs) (drop 4 xs) ys (omega (arith, length-drop 4 xs))
 
-behind_front : (xs ys : List ℕ) → 4 + fragment_len xs ≤ length xs → behind (xs ++ ys) ≡ behind xs ++ ys
+behind_front : (xs ys : List ℕ) → 4 + fragment_len xs ≤ length xs → bytes_behind (xs ++ ys) ≡ bytes_behind xs ++ ys
 behind_front xs ys h =
     let four : 4 ≤ length xs = omega arith in
     ap (λ (k : ℕ). drop (4 + k) (xs ++ ys)) (len_front xs ys four) ∙ drop-append-le (4 + fragment_len xs) xs ys h
@@ -37,32 +37,32 @@ drop_all : (n : ℕ) (xs : List ℕ) → length xs ≡ n → drop n xs ≡ []
 drop_all n xs e = subst (λ (k : ℕ). drop k xs ≡ []) e (ap (λ (k : List ℕ). drop (length xs) k) (sym (append-nil xs)) ∙ drop-append_seam xs [])
 
 -- a fragment, and what follows it
-body_of : (fragment more : List ℕ) → length fragment ≡ 4 + fragment_len fragment → body (fragment ++ more) ≡ drop 4 fragment
+body_of : (fragment more : List ℕ) → length fragment ≡ 4 + fragment_len fragment → fragment_body (fragment ++ more) ≡ drop 4 fragment
 body_of fragment more e =
     body_front fragment more (omega arith) ∙ take_all (fragment_len fragment) (drop 4 fragment) (length-drop 4 fragment ∙ omega arith)
 
-behind_of : (fragment more : List ℕ) → length fragment ≡ 4 + fragment_len fragment → behind (fragment ++ more) ≡ more
+behind_of : (fragment more : List ℕ) → length fragment ≡ 4 + fragment_len fragment → bytes_behind (fragment ++ more) ≡ more
 behind_of fragment more e = behind_front fragment more (omega arith) ∙ ap (λ (k : List ℕ). k ++ more) (drop_all (4 + fragment_len fragment) fragment e)
 
 -- the fragment that stands in front
 record Cut (xs : List ℕ) : Type 0 where
   fragment : List ℕ
-  whole : xs ≡ fragment ++ behind xs
+  whole : xs ≡ fragment ++ bytes_behind xs
   size : length fragment ≡ 4 + fragment_len fragment
   same_len : fragment_len fragment ≡ fragment_len xs
   same_last : is_last fragment ≡ is_last xs
-  same_body : drop 4 fragment ≡ body xs
+  same_body : drop 4 fragment ≡ fragment_body xs
 
 cut_front : (xs : List ℕ) → 4 + fragment_len xs ≤ length xs → Cut xs
 cut_front xs h =
     let n = 4 + fragment_len xs in
     let f = take n xs in
-    let w : xs ≡ f ++ behind xs = sym (take-append-drop n xs) in
+    let w : xs ≡ f ++ bytes_behind xs = sym (take-append-drop n xs) in
     let l : length f ≡ n = length-take-le n xs h in
     let four : 4 ≤ length f = omega arith in
-    let len : fragment_len f ≡ fragment_len xs = sym (len_front f (behind xs) four) ∙ ap (λ (k : List ℕ). fragment_len k) (sym w) in
+    let len : fragment_len f ≡ fragment_len xs = sym (len_front f (bytes_behind xs) four) ∙ ap (λ (k : List ℕ). fragment_len k) (sym w) in
     let s : length f ≡ 4 + fragment_len f = l ∙ ap (λ (k : ℕ). 4 + k) (sym len) in
-    record { fragment = f; whole = w; size = s; same_len = len; same_last = sym (last_front f (behind xs) four) ∙ ap (λ (k : List ℕ). is_last k) (sym w); same_body = sym (body_of f (behind xs) s) ∙ ap (λ (k : List ℕ). body k) (sym w) }
+    record { fragment = f; whole = w; size = s; same_len = len; same_last = sym (last_front f (bytes_behind xs) four) ∙ ap (λ (k : List ℕ). is_last k) (sym w); same_body = sym (body_of f (bytes_behind xs) s) ∙ ap (λ (k : List ℕ). fragment_body k) (sym w) }
 
 -- forth: a whole record stands there as its fragments
 pub record Spelled (left : ℕ) (have xs joined rest : List ℕ) : Type 0 where
@@ -74,11 +74,11 @@ pub record Spelled (left : ℕ) (have xs joined rest : List ℕ) : Type 0 where
 abbrev next_of : Bool → ℕ → List ℕ → List ℕ → List ℕ → List ℕ → Type 0
 next_of last left have fragment more joined = elim last [ true ↦ (more ≡ []) × (joined ≡ have ++ drop 4 fragment) | false ↦ SpellsFrom left (have ++ drop 4 fragment) more joined ]
 
-spell_last : (left : ℕ) (have xs joined : List ℕ) (c : Cut xs) → length have + fragment_len xs ≤ record_max → is_last xs ≡ true → joined ≡ have ++ body xs → SpellsFrom (suc left) have c.fragment joined
+spell_last : (left : ℕ) (have xs joined : List ℕ) (c : Cut xs) → length have + fragment_len xs ≤ record_max → is_last xs ≡ true → joined ≡ have ++ fragment_body xs → SpellsFrom (suc left) have c.fragment joined
 spell_last left have xs joined c room t e =
     (c.fragment, [], sym (append-nil c.fragment), c.size, rw c.same_len room, subst (λ (b : Bool). next_of b left have c.fragment [] joined) (sym (c.same_last ∙ t)) (refl, e ∙ ap (λ (k : List ℕ). have ++ k) (sym c.same_body)))
 
-spell_more : (left : ℕ) (have xs joined text : List ℕ) (c : Cut xs) → length have + fragment_len xs ≤ record_max → is_last xs ≡ false → SpellsFrom left (have ++ body xs) text joined → SpellsFrom (suc left) have (c.fragment ++ text) joined
+spell_more : (left : ℕ) (have xs joined text : List ℕ) (c : Cut xs) → length have + fragment_len xs ≤ record_max → is_last xs ≡ false → SpellsFrom left (have ++ fragment_body xs) text joined → SpellsFrom (suc left) have (c.fragment ++ text) joined
 spell_more left have xs joined text c room t s =
     (c.fragment, text, refl, c.size, rw c.same_len room, subst (λ (b : Bool). next_of b left have c.fragment text joined) (sym (c.same_last ∙ t)) (subst (λ (k : List ℕ). SpellsFrom left (have ++ k) text joined) (sym c.same_body) s))
 
@@ -105,13 +105,13 @@ forth_step left ih have xs joined rest e = go (is_last xs) refl where
   go : (b : Bool) → is_last xs ≡ b → Spelled (suc left) have xs joined rest
   go true t =
       let l = join_last (suc left) have xs f rest j t in
-      let same : Whole joined rest ≡ Whole (have ++ body xs) rest = sym e ∙ l.0 in
-      let is : joined ≡ have ++ body xs = cc in
+      let same : Whole joined rest ≡ Whole (have ++ fragment_body xs) rest = sym e ∙ l.0 in
+      let is : joined ≡ have ++ fragment_body xs = cc in
       record { text = c.fragment; parts = c.whole ∙ ap (λ (k : List ℕ). c.fragment ++ k) l.1; spelled = spell_last left have xs joined c room t is; four = let s = c.size in omega arith }
   go false t =
       let m = join_more (suc left) have xs f rest j t in
-      let next : front_from left (have ++ body xs) (behind xs) ≡ Whole joined rest = ap (λ (k : ℕ). front_from k (have ++ body xs) (behind xs)) (sym less) ∙ sym m.so_far ∙ e in
-      let s = ih (have ++ body xs) (behind xs) joined rest next in
+      let next : front_from left (have ++ fragment_body xs) (bytes_behind xs) ≡ Whole joined rest = ap (λ (k : ℕ). front_from k (have ++ fragment_body xs) (bytes_behind xs)) (sym less) ∙ sym m.so_far ∙ e in
+      let s = ih (have ++ fragment_body xs) (bytes_behind xs) joined rest next in
       record { text = c.fragment ++ s.text; parts = c.whole ∙ ap (λ (k : List ℕ). c.fragment ++ k) s.parts ∙ sym (append_assoc c.fragment s.text rest); spelled = spell_more left have xs joined s.text c room t s.spelled; four = let z = c.size in omega (arith, length-append c.fragment s.text) }
 
 pub spelled_forth : (left : ℕ) (have xs joined rest : List ℕ) → front_from left have xs ≡ Whole joined rest → Spelled left have xs joined rest
@@ -154,12 +154,12 @@ back_step left ih have text joined ys s = go (is_last fragment) refl s.5 where
   go : (b : Bool) → is_last fragment ≡ b → next_of b left have fragment more joined → front_from (suc left) have (text ++ ys) ≡ Whole joined ys
   go true t n =
       let w = whole_last (suc left) left have (fragment ++ tail) (sym (add-one left)) fits room (last_front fragment tail four ∙ t) in
-      let joins : have ++ body (fragment ++ tail) ≡ joined = ap (λ (k : List ℕ). have ++ k) (body_of fragment tail s.3) ∙ sym n.1 in
-      let rests : behind (fragment ++ tail) ≡ ys = behind_of fragment tail s.3 ∙ ap (λ (k : List ℕ). k ++ ys) n.0 in
-      ap (λ (k : List ℕ). front_from (suc left) have k) all ∙ w ∙ ap (λ (k : List ℕ). Whole k (behind (fragment ++ tail))) joins ∙ ap (λ (k : List ℕ). Whole joined k) rests
+      let joins : have ++ fragment_body (fragment ++ tail) ≡ joined = ap (λ (k : List ℕ). have ++ k) (body_of fragment tail s.3) ∙ sym n.1 in
+      let rests : bytes_behind (fragment ++ tail) ≡ ys = behind_of fragment tail s.3 ∙ ap (λ (k : List ℕ). k ++ ys) n.0 in
+      ap (λ (k : List ℕ). front_from (suc left) have k) all ∙ w ∙ ap (λ (k : List ℕ). Whole k (bytes_behind (fragment ++ tail))) joins ∙ ap (λ (k : List ℕ). Whole joined k) rests
   go false t n =
       let w = front_more (suc left) left have (fragment ++ tail) (sym (add-one left)) fits room (last_front fragment tail four ∙ t) in
-      ap (λ (k : List ℕ). front_from (suc left) have k) all ∙ w ∙ ap (λ (k : List ℕ). front_from left (have ++ k) (behind (fragment ++ tail))) (body_of fragment tail s.3) ∙ ap (λ (k : List ℕ). front_from left (have ++ drop 4 fragment) k) (behind_of fragment tail s.3) ∙ ih (have ++ drop 4 fragment) more joined ys n
+      ap (λ (k : List ℕ). front_from (suc left) have k) all ∙ w ∙ ap (λ (k : List ℕ). front_from left (have ++ k) (bytes_behind (fragment ++ tail))) (body_of fragment tail s.3) ∙ ap (λ (k : List ℕ). front_from left (have ++ drop 4 fragment) k) (behind_of fragment tail s.3) ∙ ih (have ++ drop 4 fragment) more joined ys n
 
 pub spelled_back : (left : ℕ) (have text joined ys : List ℕ) → SpellsFrom left have text joined → front_from left have (text ++ ys) ≡ Whole joined ys
 spelled_back zero have text joined ys s = absurd s
@@ -202,9 +202,9 @@ fault_step left ih have xs ys fault e = header_there (cases_lt (length xs) 4) wh
       let fits : 4 + fragment_len (xs ++ ys) ≤ length (xs ++ ys) = rw (len_front xs ys h) (omega (arith, length-append xs ys)) in
       let room : length have + fragment_len (xs ++ ys) ≤ record_max = rw (len_front xs ys h) r in
       front_more (suc left) left have (xs ++ ys) one fits room (last_front xs ys h ∙ t)
-      ∙ ap (λ (k : List ℕ). front_from left (have ++ k) (behind (xs ++ ys))) (body_front xs ys f)
-      ∙ ap (λ (k : List ℕ). front_from left (have ++ body xs) k) (behind_front xs ys f)
-      ∙ ih (have ++ body xs) (behind xs) ys fault (sym m ∙ e)
+      ∙ ap (λ (k : List ℕ). front_from left (have ++ k) (bytes_behind (xs ++ ys))) (body_front xs ys f)
+      ∙ ap (λ (k : List ℕ). front_from left (have ++ fragment_body xs) k) (behind_front xs ys f)
+      ∙ ih (have ++ fragment_body xs) (bytes_behind xs) ys fault (sym m ∙ e)
 
   all_there : 4 ≤ length xs → length have + fragment_len xs ≤ record_max → (length xs < 4 + fragment_len xs) ⊎ (4 + fragment_len xs ≤ length xs) → front_from (suc left) have (xs ++ ys) ≡ Fault fault
   all_there h r (inl c) = let o = open_cut (suc left) left have xs one h r c in absurd (cc)

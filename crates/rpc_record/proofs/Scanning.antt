@@ -7,7 +7,7 @@ use Rattle.std.proofs.lemmas.Bool.{cases_lt}
 use Rattle.std.proofs.lemmas.List.{drop-drop, length-take-le}
 use Rattle.std.proofs.lemmas.Option.{slice_get_within, get_or_from_slice_get}
 use Rattle.rpc_record.specs.declared.fault.FrameFault.TheVariants.{TooLong, TooMany}
-use Rattle.rpc_record.specs.Records.{record_max, header, fragment_len, is_last, body, behind, Front, Open, Fault, Whole, front, front_from}
+use Rattle.rpc_record.specs.Records.{record_max, header, fragment_len, is_last, fragment_body, bytes_behind, Front, Open, Fault, Whole, front, front_from}
 use Rattle.rpc_record.proofs.Steps.{last_is, open_short, too_many, too_long, open_cut, whole_last, front_more}
 
 cut_one : (all : List ℕ) (at a : ℕ) → slice_get all at ≡ Some a → drop at all ≡ a ∷ drop (at + 1) all
@@ -40,7 +40,7 @@ unfolding front
 scan_start all = record { have = []; count = refl; so_far = refl; within = omega arith; few = omega arith; most = omega arith }
 
 -- what is behind the fragment at a place
-pub behind_at : (at n : ℕ) (all : List ℕ) → fragment_len (drop at all) ≡ n → behind (drop at all) ≡ drop (at + (4 + n)) all
+pub behind_at : (at n : ℕ) (all : List ℕ) → fragment_len (drop at all) ≡ n → bytes_behind (drop at all) ≡ drop (at + (4 + n)) all
 behind_at at n all e = ap (λ (k : ℕ). drop (4 + k) (drop at all)) e ∙ (drop-drop (4 + n) at all ∙ ap (λ (k : ℕ). drop k all) (omega arith))
 
 pub scan_more : (left joined at n : ℕ) (all : List ℕ) → ScannedTo left joined at all → 0 < left → fragment_len (drop at all) ≡ n → joined + n ≤ record_max → at + (4 + n) ≤ length all → is_last (drop at all) ≡ false
@@ -51,11 +51,11 @@ scan_more left joined at n all s some e l fits t =
     let there : 4 + fragment_len bytes ≤ length bytes = rw e (omega (arith, s.within)) in
     let room : length s.have + fragment_len bytes ≤ record_max = rw (e, s.count) l in
     let short : fragment_len bytes ≤ length (drop 4 bytes) = omega (arith, length-drop 4 bytes) in
-    let joins : length (s.have ++ body bytes) ≡ joined + n =
-    length-append s.have (body bytes) ∙ ap (λ (k : ℕ). length s.have + k) (length-take-le (fragment_len bytes) (drop 4 bytes) short ∙ e) ∙ ap (λ (k : ℕ). k + n) s.count in
-    let next : front all ≡ front_from (left - 1) (s.have ++ body bytes) (drop (at + (4 + n)) all) =
-    s.so_far ∙ front_more left (left - 1) s.have bytes (omega arith) there room t ∙ ap (λ (k : List ℕ). front_from (left - 1) (s.have ++ body bytes) k) (behind_at at n all e) in
-    record { have = s.have ++ body bytes; count = joins; so_far = next; within = fits; few = l; most = omega (arith, s.most) }
+    let joins : length (s.have ++ fragment_body bytes) ≡ joined + n =
+    length-append s.have (fragment_body bytes) ∙ ap (λ (k : ℕ). length s.have + k) (length-take-le (fragment_len bytes) (drop 4 bytes) short ∙ e) ∙ ap (λ (k : ℕ). k + n) s.count in
+    let next : front all ≡ front_from (left - 1) (s.have ++ fragment_body bytes) (drop (at + (4 + n)) all) =
+    s.so_far ∙ front_more left (left - 1) s.have bytes (omega arith) there room t ∙ ap (λ (k : List ℕ). front_from (left - 1) (s.have ++ fragment_body bytes) k) (behind_at at n all e) in
+    record { have = s.have ++ fragment_body bytes; count = joins; so_far = next; within = fits; few = l; most = omega (arith, s.most) }
 
 pub scan_short : (left joined at : ℕ) (all : List ℕ) → ScannedTo left joined at all → length (drop at all) < 4 → front all ≡ Open
 scan_short left joined at all s h = s.so_far ∙ open_short left s.have (drop at all) h
@@ -79,8 +79,8 @@ scan_whole left joined at n all s some e l c t =
     let bytes = drop at all in
     let sum : length s.have + fragment_len bytes ≡ joined + n = ap (λ (k : ℕ). k + fragment_len bytes) s.count ∙ ap (λ (k : ℕ). joined + k) e in
     let there : 4 + fragment_len bytes ≤ length bytes = rw e (omega (arith, length-drop at all)) in
-    let whole : front all ≡ Whole (s.have ++ body bytes) (behind bytes) = s.so_far ∙ whole_last left (left - 1) s.have bytes (omega arith) there (rw sum l) (last_is bytes t) in
-    (omega (arith, s.within), (s.have ++ body bytes, whole ∙ ap (λ (k : List ℕ). Whole (s.have ++ body bytes) k) (behind_at at n all e)))
+    let whole : front all ≡ Whole (s.have ++ fragment_body bytes) (bytes_behind bytes) = s.so_far ∙ whole_last left (left - 1) s.have bytes (omega arith) there (rw sum l) (last_is bytes t) in
+    (omega (arith, s.within), (s.have ++ fragment_body bytes, whole ∙ ap (λ (k : List ℕ). Whole (s.have ++ fragment_body bytes) k) (behind_at at n all e)))
 
 -- The join of one record: what holds at a header where the record is whole, and `after` follows it.
 pub record Joining (left : ℕ) (have rest : List ℕ) (f : Front) (after : List ℕ) : Type 0 where
@@ -118,15 +118,15 @@ some_body left have rest f after j = go (cases_lt (length rest) (4 + fragment_le
       absurd (cc)
   go (inr h) = h
 
-pub join_last : (left : ℕ) (have rest : List ℕ) (f : Front) (after : List ℕ) → Joining left have rest f after → is_last rest ≡ true → (f ≡ Whole (have ++ body rest) after) × (behind rest ≡ after)
+pub join_last : (left : ℕ) (have rest : List ℕ) (f : Front) (after : List ℕ) → Joining left have rest f after → is_last rest ≡ true → (f ≡ Whole (have ++ fragment_body rest) after) × (bytes_behind rest ≡ after)
 join_last left have rest f after j t =
     let some = some_left left have rest f after j in
-    let e : f ≡ Whole (have ++ body rest) (behind rest) = j.so_far ∙ whole_last left (left - 1) have rest (omega arith) (some_body left have rest f after j) (some_room left have rest f after j) t in
-    let same : Whole (have ++ body rest) (behind rest) ≡ Whole j.whole after = sym e ∙ j.ends in
-    let none : behind rest ≡ after = cc in
-    (e ∙ ap (λ (k : List ℕ). Whole (have ++ body rest) k) none, none)
+    let e : f ≡ Whole (have ++ fragment_body rest) (bytes_behind rest) = j.so_far ∙ whole_last left (left - 1) have rest (omega arith) (some_body left have rest f after j) (some_room left have rest f after j) t in
+    let same : Whole (have ++ fragment_body rest) (bytes_behind rest) ≡ Whole j.whole after = sym e ∙ j.ends in
+    let none : bytes_behind rest ≡ after = cc in
+    (e ∙ ap (λ (k : List ℕ). Whole (have ++ fragment_body rest) k) none, none)
 
-pub join_more : (left : ℕ) (have rest : List ℕ) (f : Front) (after : List ℕ) → Joining left have rest f after → is_last rest ≡ false → Joining (left - 1) (have ++ body rest) (behind rest) f after
+pub join_more : (left : ℕ) (have rest : List ℕ) (f : Front) (after : List ℕ) → Joining left have rest f after → is_last rest ≡ false → Joining (left - 1) (have ++ fragment_body rest) (bytes_behind rest) f after
 join_more left have rest f after j t =
     let some = some_left left have rest f after j in
     record { so_far = j.so_far ∙ front_more left (left - 1) have rest (omega arith) (some_body left have rest f after j) (some_room left have rest f after j) t; whole = j.whole; ends = j.ends }
@@ -139,9 +139,9 @@ join_start all whole e = record { so_far = refl; whole = whole; ends = e }
 pub header_is : (rest word : List ℕ) (h : ℕ) → word ≡ take 4 rest → h ≡ from_be_bytes w32 word → h ≡ header rest
 header_is rest word h w e = e ∙ ap (λ (k : List ℕ). from_be_bytes w32 k) w
 
-pub body_is : (rest back front : List ℕ) (h : ℕ) → h ≡ header rest → back ≡ drop 4 rest → front ≡ take (h % 2 ^ 31) back → front ≡ body rest
+pub body_is : (rest back front : List ℕ) (h : ℕ) → h ≡ header rest → back ≡ drop 4 rest → front ≡ take (h % 2 ^ 31) back → front ≡ fragment_body rest
 body_is rest back front h e b f = f ∙ ap (λ (k : ℕ). take (k % 2 ^ 31) back) e ∙ ap (λ (k : List ℕ). take (fragment_len rest) k) b
 
-pub behind_is : (rest back next : List ℕ) (h : ℕ) → h ≡ header rest → back ≡ drop 4 rest → next ≡ drop (h % 2 ^ 31) back → next ≡ behind rest
+pub behind_is : (rest back next : List ℕ) (h : ℕ) → h ≡ header rest → back ≡ drop 4 rest → next ≡ drop (h % 2 ^ 31) back → next ≡ bytes_behind rest
 behind_is rest back next h e b f =
     f ∙ ap (λ (k : ℕ). drop (k % 2 ^ 31) back) e ∙ ap (λ (k : List ℕ). drop (fragment_len rest) k) b ∙ drop-drop (fragment_len rest) 4 rest ∙ ap (λ (k : ℕ). drop k rest) (omega arith)

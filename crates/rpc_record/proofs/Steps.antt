@@ -3,7 +3,7 @@ use Rattle.std.proofs.Common.{◌≡◌, ℕ, zero, suc, ◌+◌, ◌^◌, ◌<�
 use Rattle.std.proofs.lemmas.Bool.{le-ltb, lt-ltb}
 use Rattle.std.proofs.lemmas.Bool.Decides.{nat_tests}
 use Rattle.rpc_record.specs.declared.fault.FrameFault.TheVariants.{TooLong, TooMany}
-use Rattle.rpc_record.specs.Records.{record_max, header, fragment_len, is_last, body, behind, Front, Open, Fault, Whole, front_from}
+use Rattle.rpc_record.specs.Records.{record_max, header, fragment_len, is_last, fragment_body, bytes_behind, Front, Open, Fault, Whole, front_from}
 
 pub last_is : (bytes : List ℕ) → 2 ^ 31 ≤ header bytes → is_last bytes ≡ true
 last_is bytes h = grind (arith, nat_tests)
@@ -36,17 +36,17 @@ unfolding chosen
 chosen_more fault whole more = refl
 
 front_step : (left : ℕ) (have bytes : List ℕ)
-    → front_from (suc left) have bytes ≡ chosen (nat_lt (length bytes) 4) (nat_lt record_max (length have + fragment_len bytes)) (nat_lt (length bytes) (4 + fragment_len bytes)) (is_last bytes) (Fault (TooLong (length have + fragment_len bytes))) (Whole (have ++ body bytes) (behind bytes)) (front_from left (have ++ body bytes) (behind bytes))
+    → front_from (suc left) have bytes ≡ chosen (nat_lt (length bytes) 4) (nat_lt record_max (length have + fragment_len bytes)) (nat_lt (length bytes) (4 + fragment_len bytes)) (is_last bytes) (Fault (TooLong (length have + fragment_len bytes))) (Whole (have ++ fragment_body bytes) (bytes_behind bytes)) (front_from left (have ++ fragment_body bytes) (bytes_behind bytes))
 unfolding front_from chosen
 front_step left have bytes = refl
 
 -- how a header is judged where n fragments may still come
 judged : (n left : ℕ) (have bytes : List ℕ) (short long cut last : Bool) → n ≡ left + 1 → nat_lt (length bytes) 4 ≡ short → nat_lt record_max (length have + fragment_len bytes) ≡ long → nat_lt (length bytes) (4 + fragment_len bytes) ≡ cut → is_last bytes ≡ last
-    → front_from n have bytes ≡ chosen short long cut last (Fault (TooLong (length have + fragment_len bytes))) (Whole (have ++ body bytes) (behind bytes)) (front_from left (have ++ body bytes) (behind bytes))
+    → front_from n have bytes ≡ chosen short long cut last (Fault (TooLong (length have + fragment_len bytes))) (Whole (have ++ fragment_body bytes) (bytes_behind bytes)) (front_from left (have ++ fragment_body bytes) (bytes_behind bytes))
 judged n left have bytes short long cut last e p q r t =
     let fault = Fault (TooLong (length have + fragment_len bytes)) in
-    let whole = Whole (have ++ body bytes) (behind bytes) in
-    let more = front_from left (have ++ body bytes) (behind bytes) in
+    let whole = Whole (have ++ fragment_body bytes) (bytes_behind bytes) in
+    let more = front_from left (have ++ fragment_body bytes) (bytes_behind bytes) in
     ap (λ (k : ℕ). front_from k have bytes) (e ∙ add-one left) ∙ front_step left have bytes
     ∙ ap (λ (b : Bool). chosen b (nat_lt record_max (length have + fragment_len bytes)) (nat_lt (length bytes) (4 + fragment_len bytes)) (is_last bytes) fault whole more) p
     ∙ ap (λ (b : Bool). chosen short b (nat_lt (length bytes) (4 + fragment_len bytes)) (is_last bytes) fault whole more) q
@@ -91,12 +91,12 @@ open_cut n left have bytes e h l c =
     judged n left have bytes false false true (is_last bytes) e (le-ltb (length bytes) 4 h) (le-ltb record_max (length have + fragment_len bytes) l) (lt-ltb (length bytes) (4 + fragment_len bytes) c) refl
     ∙ chosen_cut (is_last bytes) _ _ _
 
-pub whole_last : (n left : ℕ) (have bytes : List ℕ) → n ≡ left + 1 → 4 + fragment_len bytes ≤ length bytes → length have + fragment_len bytes ≤ record_max → is_last bytes ≡ true → front_from n have bytes ≡ Whole (have ++ body bytes) (behind bytes)
+pub whole_last : (n left : ℕ) (have bytes : List ℕ) → n ≡ left + 1 → 4 + fragment_len bytes ≤ length bytes → length have + fragment_len bytes ≤ record_max → is_last bytes ≡ true → front_from n have bytes ≡ Whole (have ++ fragment_body bytes) (bytes_behind bytes)
 whole_last n left have bytes e c l t =
     let h : 4 ≤ length bytes = omega arith in
     judged n left have bytes false false false true e (le-ltb (length bytes) 4 h) (le-ltb record_max (length have + fragment_len bytes) l) (le-ltb (length bytes) (4 + fragment_len bytes) c) t ∙ chosen_last _ _ _
 
-pub front_more : (n left : ℕ) (have bytes : List ℕ) → n ≡ left + 1 → 4 + fragment_len bytes ≤ length bytes → length have + fragment_len bytes ≤ record_max → is_last bytes ≡ false → front_from n have bytes ≡ front_from left (have ++ body bytes) (behind bytes)
+pub front_more : (n left : ℕ) (have bytes : List ℕ) → n ≡ left + 1 → 4 + fragment_len bytes ≤ length bytes → length have + fragment_len bytes ≤ record_max → is_last bytes ≡ false → front_from n have bytes ≡ front_from left (have ++ fragment_body bytes) (bytes_behind bytes)
 front_more n left have bytes e c l t =
     let h : 4 ≤ length bytes = omega arith in
     judged n left have bytes false false false false e (le-ltb (length bytes) 4 h) (le-ltb record_max (length have + fragment_len bytes) l) (le-ltb (length bytes) (4 + fragment_len bytes) c) t ∙ chosen_more _ _ _

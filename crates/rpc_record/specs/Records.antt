@@ -22,11 +22,11 @@ abbrev pub is_last : List ℕ → Bool
 is_last bytes = nat_le (2 ^ 31) (header bytes)
 
 -- the fragment's bytes, and what stands behind them
-abbrev pub body : List ℕ → List ℕ
-body bytes = take (fragment_len bytes) (drop 4 bytes)
+abbrev pub fragment_body : List ℕ → List ℕ
+fragment_body bytes = take (fragment_len bytes) (drop 4 bytes)
 
-abbrev pub behind : List ℕ → List ℕ
-behind bytes = drop (4 + fragment_len bytes) bytes
+abbrev pub bytes_behind : List ℕ → List ℕ
+bytes_behind bytes = drop (4 + fragment_len bytes) bytes
 
 -- the header of a record of n bytes in one fragment, where n is below 2 ^ 31
 abbrev pub mark_text : ℕ → List ℕ
@@ -47,7 +47,7 @@ front_from (suc left) have bytes = elim (nat_lt (length bytes) 4) [
     | true ↦ Fault (TooLong (length have + fragment_len bytes))
     | false ↦ elim (nat_lt (length bytes) (4 + fragment_len bytes)) [
       | true ↦ Open
-      | false ↦ elim (is_last bytes) [ true ↦ Whole (have ++ body bytes) (behind bytes) | false ↦ front_from left (have ++ body bytes) (behind bytes) ]
+      | false ↦ elim (is_last bytes) [ true ↦ Whole (have ++ fragment_body bytes) (bytes_behind bytes) | false ↦ front_from left (have ++ fragment_body bytes) (bytes_behind bytes) ]
     ]
   ]
 ]

@@ -1,8 +1,8 @@
 // Records from the pieces of a stream.
 ghost use Rattle.std.specs.Prelude.{◌≡◌, ◌≢◌, ◌≤◌, ◌++◌, ℕ, List, [], length, None, Some, Ok, Err, IfOk, IfErr, OnOk, OnErr};
 ghost use Rattle.rpc_record.specs.declared.fault.FrameFault.{FrameFault};
-ghost use Rattle.rpc_record.specs.Records.{Open, Whole, front};
-ghost use Rattle.rpc_record.specs.Assembly.{empty, fed};
+ghost use Rattle.rpc_record.specs.Records.{Open, Fault, Whole, front};
+ghost use Rattle.rpc_record.specs.Assembly.{empty_assembly, feed_result};
 
 use crate::FrameFault;
 use crate::stream::{FirstRecord, join, scan};
@@ -36,7 +36,7 @@ impl Assembler {
     /// An assembler at the start of a stream.
     #[tactic(auto, using(crate::proofs::Fronts::front_empty))]
     pub fn new(alloc: Global) -> Assembler
-        ensures { result ≡ empty }
+        ensures { result ≡ empty_assembly }
     {
         Assembler {
             alloc,
@@ -48,12 +48,15 @@ impl Assembler {
 
     /// Takes bytes of a piece: all of it, or up to the end of a record, which is ready then. The
     /// count is how many were taken. A header at fault is answered as soon as its four bytes are
-    /// there, and at every call from then on. Want of memory changes nothing.
+    /// there, and at every call from then on. Want of memory changes nothing, and is never answered for a
+    /// header at fault.
     pub fn feed(&mut self, piece: &[u8]) -> Result<usize, FrameFault>
         requires { self.old.ready ≡ None }
-        ensures ok { IfOk result (λ count. fed self.old piece.now ≡ (Ok count, self.new)) }
-        ensures fault { IfErr result (λ fault. fault ≢ FrameFault.Memory → fed self.old piece.now ≡ (Err fault, self.new)) }
+        ensures ok { IfOk result (λ count. feed_result self.old piece.now ≡ (Ok count, self.new)) }
+        ensures fault { IfErr result (λ fault. fault ≢ FrameFault.Memory → feed_result self.old piece.now ≡ (Err fault, self.new)) }
         ensures memory { result ≡ Err FrameFault.Memory → self.new ≡ self.old }
+    ensures sound { result ≡ Err FrameFault.Memory → self.old.fault ≡ None
+        → (fault : FrameFault) → front (self.old.held ++ piece.now) ≢ Fault fault }
         ensures broken { (fault : FrameFault) → self.old.fault ≡ Some fault → result ≡ Err fault }
         ensures within { IfOk result (λ count. count ≤ length piece.now) }
     {

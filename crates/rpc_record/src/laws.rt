@@ -3,7 +3,7 @@
 ghost use Rattle.std.specs.Prelude.{◌≡◌, ◌↔◌, ◌≤◌, ◌++◌, ◌∷◌, [], ℕ, List, length, take, None, Ok, Err};
 ghost use Rattle.rpc_record.specs.declared.fault.FrameFault.{FrameFault};
 ghost use Rattle.rpc_record.specs.Records.{Open, Fault, Whole, front, Records, Rest, Broken, records, then_record, SpellsRecord};
-ghost use Rattle.rpc_record.specs.Assembly.{Assembly, empty, fed, ready_records, Stands};
+ghost use Rattle.rpc_record.specs.Assembly.{Assembly, empty_assembly, feed_result, ready_records, MatchesStream};
 
 /// A stream begins with a record exactly where it begins with the fragments of that record. More
 /// bytes change neither a whole record nor a fault.
@@ -30,13 +30,13 @@ pub fn records_law()
 /// However a stream is cut into pieces, the records that an assembler gave, and the one that is
 /// ready, are the records of the bytes that it took; and it is at fault where that stream is.
 pub fn assembler_law()
-    ensures start { Stands [] [] empty }
+    ensures start { MatchesStream [] [] empty_assembly }
     ensures taken { (given : List (List ℕ)) (bytes piece : List ℕ) (s t : Assembly) (count : ℕ)
-        → Stands given bytes s → s.ready ≡ None → fed s piece ≡ (Ok count, t)
-        → (count ≤ length piece) × Stands given (bytes ++ take count piece) t }
+        → MatchesStream given bytes s → s.ready ≡ None → feed_result s piece ≡ (Ok count, t)
+        → (count ≤ length piece) × MatchesStream given (bytes ++ take count piece) t }
     ensures fault { (given : List (List ℕ)) (bytes piece : List ℕ) (s t : Assembly) (fault : FrameFault)
-        → Stands given bytes s → s.ready ≡ None → fed s piece ≡ (Err fault, t)
-        → ((records (bytes ++ piece)).end ≡ Broken fault) × Stands given (bytes ++ piece) t }
-    ensures next { (given : List (List ℕ)) (bytes : List ℕ) (s : Assembly) → Stands given bytes s
-        → Stands (given ++ ready_records s.ready) bytes (record s { ready = None }) }
+        → MatchesStream given bytes s → s.ready ≡ None → feed_result s piece ≡ (Err fault, t)
+        → ((records (bytes ++ piece)).end ≡ Broken fault) × MatchesStream given (bytes ++ piece) t }
+    ensures next { (given : List (List ℕ)) (bytes : List ℕ) (s : Assembly) → MatchesStream given bytes s
+        → MatchesStream (given ++ ready_records s.ready) bytes (record s { ready = None }) }
 {}

@@ -5,7 +5,7 @@ use Rattle.std.proofs.lemmas.Bool.Decides.{nat_tests}
 use Rattle.hex.specs.Hex.{decode_pairs, hex_digit_value, pair_value}
 use Rattle.hex.specs.declared.error.FromHexError.{FromHexError}
 use Rattle.hex.specs.declared.error.FromHexError.TheVariants.{InvalidHexCharacter}
-use Rattle.transcript.specs.Fields.{bytes_of}
+use Rattle.transcript.specs.Fields.{hex_bytes}
 use Rattle.hex.proofs.Pairs.{prepend, decode_start, decode_step, decode_err, decode_done}
 
 pub record Decoded (text bytes : List ℕ) (greatest i : ℕ) : Type 0 where
@@ -71,7 +71,7 @@ decoded_whole text bytes greatest i all whole now =
     ]
 
 -- a field has one byte at least
-pub no_bytes : (text : List ℕ) → length text ≡ 0 → bytes_of text ≡ None
+pub no_bytes : (text : List ℕ) → length text ≡ 0 → hex_bytes text ≡ None
 unfolding decode_pairs
 no_bytes [] h = refl
 no_bytes (c ∷ cs) h = absurd (omega arith)

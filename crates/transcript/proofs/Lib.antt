@@ -2,4 +2,3 @@ pub mod Digits
 pub mod Numbers
 pub mod ScriptLaws
 pub mod Feeds
-pub mod Fronts

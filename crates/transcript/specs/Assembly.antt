@@ -10,10 +10,10 @@ use Rattle.transcript.specs.declared.lines.Next.{Next}
 use Rattle.transcript.specs.declared.lines.Next.TheVariants as next
 
 -- a cut: the line that it found, and the bytes that were held before and after
-abbrev pub IsCut : Cut → List ℕ → List ℕ → List ℕ → Type 0
-IsCut cut.Line line old new = TakesLine line old new
-IsCut cut.TooLong line old new = (new ≡ old) × BeginsTooLong old
-IsCut cut.Part line old new = (new ≡ old) × IsPart old
+abbrev pub IsLineCut : Cut → List ℕ → List ℕ → List ℕ → Type 0
+IsLineCut cut.Line line old new = TakesLine line old new
+IsLineCut cut.TooLong line old new = (new ≡ old) × BeginsTooLong old
+IsLineCut cut.Part line old new = (new ≡ old) × IsPart old
 
 -- one read, in which `taken` was read
 abbrev pub IsFilled : Fill → List ℕ → List ℕ → List ℕ → Option (List ℕ) → Type 0
@@ -23,9 +23,9 @@ IsFilled fill.ReadFault old new taken left = (new ≡ old) × (taken ≡ [])
 IsFilled fill.NoMemory old new taken left = (new ≡ old) × (taken ≡ [])
 
 -- the next line, where `taken` was read for it and `left` is what the source has left
-abbrev pub IsNext : Next → List ℕ → List ℕ → List ℕ → List ℕ → Option (List ℕ) → Type 0
-IsNext next.Line line old new taken left = TakesLine line (old ++ taken) new
-IsNext next.TooLong line old new taken left = (new ≡ old ++ taken) × BeginsTooLong (old ++ taken)
-IsNext next.AtEnd line old new taken left = (new ≡ old ++ taken) × IsPart (old ++ taken) × IsAtEnd left
-IsNext next.ReadFault line old new taken left = (new ≡ old ++ taken) × IsPart (old ++ taken)
-IsNext next.NoMemory line old new taken left = (new ≡ old ++ taken) × IsPart (old ++ taken)
+abbrev pub IsNextLine : Next → List ℕ → List ℕ → List ℕ → List ℕ → Option (List ℕ) → Type 0
+IsNextLine next.Line line old new taken left = TakesLine line (old ++ taken) new
+IsNextLine next.TooLong line old new taken left = (new ≡ old ++ taken) × BeginsTooLong (old ++ taken)
+IsNextLine next.AtEnd line old new taken left = (new ≡ old ++ taken) × IsPart (old ++ taken) × IsAtEnd left
+IsNextLine next.ReadFault line old new taken left = (new ≡ old ++ taken) × IsPart (old ++ taken)
+IsNextLine next.NoMemory line old new taken left = (new ≡ old ++ taken) × IsPart (old ++ taken)

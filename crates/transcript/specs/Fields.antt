@@ -16,5 +16,5 @@ some_bytes (Ok (byte ∷ bytes)) = Some (byte ∷ bytes)
 some_bytes (Err fault) = None
 
 -- the bytes, at least one, that are spelled so in hex digits of either case
-abbrev pub bytes_of : List ℕ → Option (List ℕ)
-bytes_of text = some_bytes (decode_of text)
+abbrev pub hex_bytes : List ℕ → Option (List ℕ)
+hex_bytes text = some_bytes (decode_of text)

@@ -1,5 +1,4 @@
 pub mod Script
-pub mod Held
+pub mod LineBuffer
 pub mod Assembly
 pub mod Fields
-pub mod Writing

@@ -1,7 +1,7 @@
 // Bytes in hex digits.
 ghost use Rattle.std.specs.Prelude.{◌≡◌, ◌++◌, ◌*◌, ◌<◌, None, Some, Ok, IfOk, MatchOption, MatchBool, OnOk, OnErr, IsErr, length};
 ghost use Rattle.hex.specs.Hex.{decode_pairs, encode_lower, hex_digit_value};
-ghost use Rattle.transcript.specs.Fields.{bytes_of};
+ghost use Rattle.transcript.specs.Fields.{hex_bytes};
 
 use std::alloc::AllocError;
 
@@ -40,8 +40,8 @@ fn decode_pairs(text: &[u8], bytes: &mut [u8]) -> bool
 /// `None`. The bytes lie in the room, which grows where it is too small and never shrinks, so that one block serves all
 /// fields of a run. It fails only for want of memory.
 pub fn decode<'r>(text: &[u8], room: &'r mut Vec<u8>) -> Result<Option<&'r [u8]>, AllocError>
-    ensures { IfOk result (λ field. MatchOption field (bytes_of text.now ≡ None)
-        (λ bytes. bytes_of text.now ≡ Some bytes.now)) }
+    ensures { IfOk result (λ field. MatchOption field (hex_bytes text.now ≡ None)
+        (λ bytes. hex_bytes text.now ≡ Some bytes.now)) }
 {
     if text.is_empty() || text.len() % 2 != 0 {
         return Ok(None);

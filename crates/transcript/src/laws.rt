@@ -1,7 +1,7 @@
 // What the definitions come to. Each function says it in its contract, and does nothing.
 ghost use Rattle.std.specs.Prelude.{◌≡◌, ◌≤◌, ◌<◌, ◌^◌, ◌+◌, ◌++◌, ◌∷◌, List, ℕ, Some, decimal};
 ghost use Rattle.transcript.specs.Fields.{number_of};
-ghost use Rattle.transcript.specs.Script.{AtBad, AtOpen, BeginsTooLong, IsPart, Reading, TakesLine, line_then, max_lines, script_from, stops};
+ghost use Rattle.transcript.specs.Script.{AtBad, AtOpen, BeginsTooLong, IsPart, LineReading, TakesLine, line_then, max_lines, script_from, empty_script};
 
 /// A field is read as the number that prints it, and each number as what is printed of it.
 pub fn number_law()
@@ -17,21 +17,21 @@ pub fn number_law()
 /// begin too long, and what comes after as many lines as there may be, are bad whatever follows.
 /// Bytes that are part of a line end open.
 pub fn script_laws<G, E>()
-    ensures line { (read : G → List ℕ → Reading G E) (grammar : G) (before : ℕ) (line rest : List ℕ)
+    ensures line { (read : G → List ℕ → LineReading G E) (grammar : G) (before : ℕ) (line rest : List ℕ)
         → before < max_lines → IsPart line
         → script_from read grammar before (line ++ 10 ∷ rest)
         ≡ line_then (read grammar line) (λ later. script_from read later (before + 1) rest) }
-    ensures takes { (read : G → List ℕ → Reading G E) (grammar : G) (before : ℕ) (line old new more : List ℕ)
+    ensures takes { (read : G → List ℕ → LineReading G E) (grammar : G) (before : ℕ) (line old new more : List ℕ)
         → before < max_lines → TakesLine line old new
         → script_from read grammar before (old ++ more)
         ≡ line_then (read grammar line) (λ later. script_from read later (before + 1) (new ++ more)) }
-    ensures long { (read : G → List ℕ → Reading G E) (grammar : G) (before : ℕ) (bytes more : List ℕ)
+    ensures long { (read : G → List ℕ → LineReading G E) (grammar : G) (before : ℕ) (bytes more : List ℕ)
         → BeginsTooLong bytes
-        → script_from read grammar before (bytes ++ more) ≡ stops AtBad }
-    ensures late { (read : G → List ℕ → Reading G E) (grammar : G) (before : ℕ) (bytes : List ℕ)
+        → script_from read grammar before (bytes ++ more) ≡ empty_script AtBad }
+    ensures late { (read : G → List ℕ → LineReading G E) (grammar : G) (before : ℕ) (bytes : List ℕ)
         → max_lines ≤ before
-        → script_from read grammar before bytes ≡ stops AtBad }
-    ensures part { (read : G → List ℕ → Reading G E) (grammar : G) (before : ℕ) (bytes : List ℕ)
+        → script_from read grammar before bytes ≡ empty_script AtBad }
+    ensures part { (read : G → List ℕ → LineReading G E) (grammar : G) (before : ℕ) (bytes : List ℕ)
         → before < max_lines → IsPart bytes
-        → script_from read grammar before bytes ≡ stops AtOpen }
+        → script_from read grammar before bytes ≡ empty_script AtOpen }
 {}

@@ -1,4 +1,4 @@
-//! What a transcript is, whatever its lines mean: lines, fields, the script of a grammar, and writing a text.
+//! What a transcript is, whatever its lines mean: lines, fields, the script of a grammar, and hex digits.
 #![tactic(auto)]
 
 mod buffer;
@@ -8,10 +8,8 @@ mod lines;
 mod number;
 #[cfg(test)]
 mod tests;
-mod writing;
 
 pub use hex_field::{decode, push_hex};
 pub use laws::{number_law, script_laws};
 pub use lines::{Lines, MAX_LINE, MAX_LINES, Next};
 pub use number::{parse_u32, parse_u64};
-pub use writing::write_all;

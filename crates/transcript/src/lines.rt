@@ -3,8 +3,8 @@ ghost use Rattle.std.specs.Prelude.{◌≡◌, ◌≤◌, List, ℕ, length, IsT
 ghost use Rattle.std.specs.Io.KnownBytes.{Consumes};
 ghost use Rattle.gw_outside.specs.Causes.{Rose};
 ghost use Rattle.transcript.specs.Script.{max_line};
-ghost use Rattle.transcript.specs.Assembly.{IsCut, IsFilled, IsNext};
-ghost use Rattle.transcript.specs.Held.{nothing};
+ghost use Rattle.transcript.specs.Assembly.{IsLineCut, IsFilled, IsNextLine};
+ghost use Rattle.transcript.specs.LineBuffer.{empty_buffer};
 
 use crate::buffer::{make_room, move_to_front, next_feed, read_behind};
 use gw_outside::Source;
@@ -35,9 +35,9 @@ pub struct Lines {
 impl Model for Lines {
     ghost use Rattle.std.specs.Prelude.{◌-◌, ◌+◌, ◌≤◌, drop, take, vec_len};
     ghost use Rattle.transcript.specs.Script.{HasNoFeed};
-    ghost use Rattle.transcript.specs.Held.{Held};
+    ghost use Rattle.transcript.specs.LineBuffer.{LineBuffer};
 
-    ghost Value = { Held };
+    ghost Value = { LineBuffer };
 
     ghost view = { λ l. record {
       line = take l.line_length (drop l.line_start l.buffer.items);
@@ -82,7 +82,7 @@ pub enum Next {
 impl Lines {
     /// Nothing was read yet. Takes no memory.
     pub fn new(alloc: Global) -> Lines
-        ensures { result ≡ nothing }
+        ensures { result ≡ empty_buffer }
     {
         Lines {
             buffer: Vec::new(alloc),
@@ -103,7 +103,7 @@ impl Lines {
 
     // Takes the first line off, where a whole one is there.
     fn cut(&mut self) -> Cut
-        ensures { IsCut result self.new.line self.old.pending self.new.pending }
+        ensures { IsLineCut result self.new.line self.old.pending self.new.pending }
     {
         let pending = &self.buffer[self.start..self.end];
         match next_feed(pending, self.scanned - self.start) {
@@ -160,7 +160,7 @@ impl Lines {
     /// Finds the next line, reading as often as it takes.
     pub fn next<S: Source>(&mut self, source: &mut S) -> Next
         ensures bytes { (taken : List ℕ) × Consumes (S.left source.old) (S.left source.new) taken
-            × IsNext result self.new.line self.old.pending self.new.pending taken (S.left source.new) }
+            × IsNextLine result self.new.line self.old.pending self.new.pending taken (S.left source.new) }
         ensures ended { result ≡ Next.AtEnd → IsTrue (S.ended source.new) }
         ensures later { S.count source.old ≤ S.count source.new }
         ensures cause { result ≡ Next.ReadFault → Rose (S.count source.old) (S.count source.new) }

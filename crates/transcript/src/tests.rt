@@ -1,12 +1,10 @@
 // What no clause says: examples from outside, and that each call can succeed.
 ghost use Rattle.std.specs.Prelude.{Some};
-ghost use Rattle.gw_outside.specs.Memory.{sink_count};
 
 use crate::{
     Lines, MAX_LINE, Next, decode, number_law, parse_u32, parse_u64, push_hex, script_laws,
-    write_all,
 };
-use gw_outside::{MemSink, MemSource, ReadFault, Sink, Source, WriteFault};
+use gw_outside::{MemSource, ReadFault, Source};
 use std::alloc::{AllocError, Global};
 use std::test::Fail;
 
@@ -26,27 +24,6 @@ impl Source for Drip {
     fn read(&mut self, out: &mut [u8]) -> Result<usize, ReadFault> {
         let room = out.len().min(1);
         self.inner.read(&mut out[..room])
-    }
-
-    fn faults(&self) -> u64 {
-        self.inner.faults()
-    }
-}
-
-/// Takes two bytes a write.
-#[derive(Drop)]
-struct Sip {
-    inner: MemSink,
-}
-
-impl Sink for Sip {
-    ghost held = { λ s. Some s.inner.held };
-
-    ghost count = { λ s. sink_count s.inner };
-
-    fn write(&mut self, bytes: &[u8]) -> Result<usize, WriteFault> {
-        let part = bytes.len().min(2);
-        self.inner.write(&bytes[..part])
     }
 
     fn faults(&self) -> u64 {
@@ -171,21 +148,5 @@ fn writes_hex(rt: HostRuntime) -> Result<(), Fail> {
     let mut text = Vec::from_slice(rt.alloc(), b"reply 1 ")?;
     push_hex(&mut text, &[0x0a, 0xff, 0xab])?;
     assert_eq!(rt; text.as_slice(), b"reply 1 0affab".as_slice());
-    Ok(())
-}
-
-#[test]
-fn writes_in_parts(rt: HostRuntime) -> Result<(), Fail> {
-    let alloc = rt.alloc();
-    let mut sink = Sip {
-        inner: MemSink::new(alloc, Vec::new(alloc)),
-    };
-    assert_eq!(rt; write_all(&mut sink, b"closed 7\n"), Ok(()));
-    assert_eq!(rt; sink.inner.bytes(), b"closed 7\n".as_slice());
-    let mut sink = Sip {
-        inner: MemSink::new(alloc, Vec::from_slice(alloc, &[3])?),
-    };
-    assert_eq!(rt; write_all(&mut sink, b"closed 7\n"), Err(WriteFault));
-    assert_eq!(rt; sink.inner.bytes(), b"clos".as_slice());
     Ok(())
 }

@@ -3,6 +3,7 @@
 ghost use Rattle.std.specs.Prelude.{◌≡◌, ◌↔◌, ◌+◌, ◌<◌, ◌≤◌, ◌^◌, ◌++◌, ◌∷◌, ℕ, Bool, List, [], length, All, Ok, Err};
 ghost use Rattle.xdr.specs.declared.fault.XdrFault.{XdrFault};
 ghost use Rattle.xdr.specs.Items.{word, long, pad_len, bool_text, fixed_text, opaque_text, SpellsU32, SpellsU64, SpellsBool, SpellsFixed, SpellsOpaque};
+ghost use Rattle.xdr.specs.Rows.{Item, Spells, text, AllFit};
 ghost use Rattle.xdr.specs.Reading.{Cursor, Takes, u32_at, u64_at, bool_at, fixed_at, opaque_at, finish_at};
 
 /// A number of 32 bits is read from exactly its spellings; the written word spells it, and is read
@@ -59,4 +60,9 @@ pub fn opaque_law()
 /// The reading ends well exactly where nothing is left.
 pub fn finish_law()
     ensures exact { (c : Cursor) → (finish_at c ≡ Ok tt) ↔ (c.left ≡ []) }
+{}
+
+/// What is written for a row spells it.
+pub fn row_law()
+    ensures written { (row : List Item) → AllFit row → Spells (text row) row }
 {}

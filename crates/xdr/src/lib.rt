@@ -8,7 +8,7 @@ mod reader;
 mod writer;
 
 pub use fault::{NoMemory, XdrFault};
-pub use laws::{bool_law, finish_law, fixed_law, opaque_law, u32_law, u64_law};
+pub use laws::{bool_law, finish_law, fixed_law, opaque_law, row_law, u32_law, u64_law};
 pub use reader::Reader;
 pub use writer::Writer;
 

@@ -1,5 +1,5 @@
 use Rattle.nfs_types.specs.Types.{attr_at, attr_row}
-use Rattle.nfs_types.proofs.Exact.{read_again}
+use Rattle.xdr.proofs.Exact.{read_again}
 use Rattle.nfs_types.proofs.Types.{exact_attr}
 use Rattle.nfs_types.proofs.laws.attr_law.Goals as goal
 

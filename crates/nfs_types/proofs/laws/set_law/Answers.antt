@@ -1,5 +1,5 @@
 use Rattle.nfs_types.specs.Types.{set_at, set_row}
-use Rattle.nfs_types.proofs.Exact.{read_again}
+use Rattle.xdr.proofs.Exact.{read_again}
 use Rattle.nfs_types.proofs.Types.{exact_set}
 use Rattle.nfs_types.proofs.laws.set_law.Goals as goal
 

@@ -1,5 +1,5 @@
 use Rattle.nfs_types.specs.Types.{time_at, time_row}
-use Rattle.nfs_types.proofs.Exact.{read_again}
+use Rattle.xdr.proofs.Exact.{read_again}
 use Rattle.nfs_types.proofs.Types.{exact_time}
 use Rattle.nfs_types.proofs.laws.time_law.Goals as goal
 

@@ -1,7 +1,7 @@
 use Rattle.std.proofs.Common.{sym, subst}
 use Rattle.xdr.specs.Reading.{Cursor}
-use Rattle.nfs_types.specs.Rows.{word_row, long_row}
-use Rattle.nfs_types.proofs.Exact.{exact_u32, exact_u64}
+use Rattle.xdr.specs.Rows.{word_row, long_row}
+use Rattle.xdr.proofs.Exact.{exact_u32, exact_u64}
 use Rattle.nfs_wire.specs.Places.{StandsIn}
 use Rattle.nfs_wire.specs.Arguments.{handle_row, stable_row}
 use Rattle.nfs_wire.proofs.Parts.{exact_handle, exact_stable}

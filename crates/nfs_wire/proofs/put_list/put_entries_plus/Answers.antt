@@ -2,9 +2,9 @@ use Rattle.std.proofs.Common.{[], get_or, refl}
 use Rattle.xdr.specs.Items.{bool_text}
 use Rattle.nfs_types.specs.declared.file_type.FileType.TheVariants.{Regular}
 use Rattle.nfs_wire.specs.declared.res.EntryPlus.{EntryPlus}
-use Rattle.nfs_wire.specs.Results.{plus_row}
+use Rattle.nfs_wire.specs.Results.{entry_plus_row}
 use Rattle.nfs_wire.specs.Short.{HasShortNamePlus}
-use Rattle.nfs_wire.specs.Views.{listed_plus}
+use Rattle.nfs_wire.specs.Views.{entry_plus_view}
 use Rattle.nfs_wire.proofs.Loops.{list_more, each_more}
 use Rattle.nfs_wire.proofs.put_list.put_entries_plus.Goals as goal
 
@@ -40,6 +40,6 @@ loop-plus-preserved c =
     let x = get_or xs i none in
     let room = c.loop-plus-test.true in
     let done = c.in_ok-put_entry_plus.ensures in (
-      list_more plus_row listed_plus xs i none x c.loop-plus.writer c.put_bool.new.self c.put_entry_plus.new.writer _ room refl c.in_ok-put_bool.ensures.ok done.ok c.loop-plus.invariant.0,
-      each_more HasShortNamePlus _ listed_plus xs i none x room refl done.short c.loop-plus.invariant.1,
+      list_more entry_plus_row entry_plus_view xs i none x c.loop-plus.writer c.put_bool.new.self c.put_entry_plus.new.writer _ room refl c.in_ok-put_bool.ensures.ok done.ok c.loop-plus.invariant.0,
+      each_more HasShortNamePlus _ entry_plus_view xs i none x room refl done.short c.loop-plus.invariant.1,
     )

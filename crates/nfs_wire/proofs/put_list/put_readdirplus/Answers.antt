@@ -1,7 +1,7 @@
 use Rattle.std.proofs.Common.{map}
 use Rattle.xdr.specs.Items.{bool_text}
-use Rattle.nfs_wire.specs.Results.{plus_row}
-use Rattle.nfs_wire.specs.Views.{listed_plus}
+use Rattle.nfs_wire.specs.Results.{entry_plus_row}
+use Rattle.nfs_wire.specs.Views.{entry_plus_view}
 use Rattle.nfs_wire.proofs.Loops.{on_ok, listing_written}
 use Rattle.nfs_wire.proofs.put_list.put_readdirplus.Goals as goal
 
@@ -13,4 +13,4 @@ returns-clause-ok c =
     let w2 = c.put_fixed.new.self in
     let w3 = c.put_entries_plus.new.writer in
     let w4 = c.put_bool.new.self in
-    on_ok c.put_bool.result _ _ (listing_written plus_row (map listed_plus c.args.entries.now) c.args.eof w w1 w2 w3 w4 c.args.verifier.now c.in_ok-put_zeros.ensures c.in_ok-put_fixed.ensures.ok c.in_ok-put_entries_plus.ensures.ok) c.put_bool.ensures.ok
+    on_ok c.put_bool.result _ _ (listing_written entry_plus_row (map entry_plus_view c.args.entries.now) c.args.eof w w1 w2 w3 w4 c.args.verifier.now c.in_ok-put_zeros.ensures c.in_ok-put_fixed.ensures.ok c.in_ok-put_entries_plus.ensures.ok) c.put_bool.ensures.ok

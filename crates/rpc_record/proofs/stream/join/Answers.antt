@@ -1,5 +1,5 @@
 use Rattle.std.proofs.Common.{◌≡◌, ℕ, ◌+◌, ◌%◌, ◌^◌, ◌≤◌, ◌<◌, List, ◌++◌, length, ap, ◌∙◌, arith, length-drop}
-use Rattle.rpc_record.specs.Records.{fragment_len, body}
+use Rattle.rpc_record.specs.Records.{fragment_len, fragment_body}
 use Rattle.rpc_record.proofs.Steps.{last_is, not_last_is}
 use Rattle.rpc_record.proofs.Scanning.{join_start, some_header, some_left, some_body, join_last, join_more, header_is, body_is, behind_is}
 use Rattle.rpc_record.proofs.stream.join.Goals as goal
@@ -26,7 +26,7 @@ returns-then-header-ge-LAST_FRAGMENT c =
     let rest = c.loop-word.rest.now in
     let h = header_is rest c.in-Some.word.now c.from_be_bytes-header.result c.in-Some.ensures.cases.0 c.from_be_bytes-header.ensures in
     let cut = body_is rest c.in-Some.behind.now c.split_at.result.0.now c.from_be_bytes-header.result h c.in-Some.ensures.cases.1 c.split_at.ensures.front in
-    let joined : c.extend_from_slice.new.self.items ≡ c.loop-word.joined.items ++ body rest = c.in_ok-extend_from_slice.ensures.items ∙ ap (λ (k : List ℕ). c.loop-word.joined.items ++ k) cut in
+    let joined : c.extend_from_slice.new.self.items ≡ c.loop-word.joined.items ++ fragment_body rest = c.in_ok-extend_from_slice.ensures.items ∙ ap (λ (k : List ℕ). c.loop-word.joined.items ++ k) cut in
     rw joined (join_last _ _ _ _ _ c.loop-word.invariant (last_is rest (rw (← h) c.if-header-ge-LAST_FRAGMENT.true))).0
 
 pub overflow_sub-left : goal.overflow_sub-left
@@ -41,5 +41,5 @@ loop-word-preserved c =
     let h = header_is rest c.in-Some.word.now c.from_be_bytes-header.result c.in-Some.ensures.cases.0 c.from_be_bytes-header.ensures in
     let cut = body_is rest c.in-Some.behind.now c.split_at.result.0.now c.from_be_bytes-header.result h c.in-Some.ensures.cases.1 c.split_at.ensures.front in
     let next = behind_is rest c.in-Some.behind.now c.split_at.result.1.now c.from_be_bytes-header.result h c.in-Some.ensures.cases.1 c.split_at.ensures.back in
-    let joined : c.extend_from_slice.new.self.items ≡ c.loop-word.joined.items ++ body rest = c.in_ok-extend_from_slice.ensures.items ∙ ap (λ (k : List ℕ). c.loop-word.joined.items ++ k) cut in
+    let joined : c.extend_from_slice.new.self.items ≡ c.loop-word.joined.items ++ fragment_body rest = c.in_ok-extend_from_slice.ensures.items ∙ ap (λ (k : List ℕ). c.loop-word.joined.items ++ k) cut in
     rw (joined, next) (join_more _ _ _ _ _ c.loop-word.invariant (not_last_is rest (rw (← h) c.if-header-ge-LAST_FRAGMENT.false)))

@@ -1,7 +1,7 @@
 -- What it means that a reading is exact for the rows of its values.
 use Rattle.std.specs.Prelude.{◌≡◌, ◌↔◌, ℕ, ◌+◌, List, ◌++◌, length, Ok}
 use Rattle.xdr.specs.Reading.{Cursor, Reading, Takes}
-use Rattle.nfs_types.specs.Rows.{Item, Spells, text, AllFit}
+use Rattle.xdr.specs.Rows.{Item, Spells, text, AllFit}
 
 -- A value is read from exactly the spellings of its row.
 abbrev pub IsExact : {A : Type 0} → (Cursor → Reading A) → (A → List Item) → Type 0

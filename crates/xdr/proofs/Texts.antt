@@ -2,9 +2,9 @@
 use Rattle.std.proofs.Common.{◌≡◌, ℕ, List, [], ◌∷◌, ◌++◌, refl, sym, ap, ◌∙◌, append_assoc, append-nil}
 use Rattle.xdr.proofs.Numbers.{word_spells, long_spells}
 use Rattle.xdr.proofs.Opaques.{fixed_spells, opaque_spells}
-use Rattle.nfs_types.specs.Rows.{Item, Word, Long, Fixed, Opaque, SpellsItem, Spells, item_text, written, text, Fits, AllFit}
+use Rattle.xdr.specs.Rows.{Item, Word, Long, Fixed, Opaque, SpellsItem, Spells, item_text, joined_text, text, Fits, AllFit}
 
-pub written-text : (done : List ℕ) (row : List Item) → written done row ≡ done ++ text row
+pub written-text : (done : List ℕ) (row : List Item) → joined_text done row ≡ done ++ text row
 written-text done [] = sym (append-nil done)
 written-text done (item ∷ row) =
     written-text (done ++ item_text item) row ∙ append_assoc done (item_text item) (text row) ∙ ap (λ (k : List ℕ). done ++ k) (sym (written-text (item_text item) row))
@@ -13,7 +13,7 @@ pub text-cons : (item : Item) (row : List Item) → text (item ∷ row) ≡ item
 text-cons item row = written-text (item_text item) row
 
 -- one row behind another
-pub written-append : (done : List ℕ) (xs ys : List Item) → written done (xs ++ ys) ≡ written (written done xs) ys
+pub written-append : (done : List ℕ) (xs ys : List Item) → joined_text done (xs ++ ys) ≡ joined_text (joined_text done xs) ys
 written-append done [] ys = refl
 written-append done (item ∷ xs) ys = written-append (done ++ item_text item) xs ys
 

@@ -3,8 +3,8 @@ use Rattle.std.proofs.Common.{◌≡◌, ℕ, ◌+◌, List, [], ◌∷◌, ◌+
 use Rattle.xdr.specs.declared.fault.XdrFault.{XdrFault}
 use Rattle.xdr.specs.Reading.{Cursor, Reading, Takes}
 use Rattle.xdr.proofs.Fronts.{same_cursor}
-use Rattle.nfs_types.specs.Rows.{Item, SpellsItem, Spells}
-use Rattle.nfs_types.specs.Forms.{◌>>=◌}
+use Rattle.xdr.specs.Rows.{Item, SpellsItem, Spells}
+use Rattle.xdr.specs.Forms.{◌>>=◌}
 
 -- the value of a step that was done, and what was done behind it
 pub bind_ok : {A B : Type 0} (r : Result A XdrFault) (f : A → Result B XdrFault) (y : B) → (r >>= f) ≡ Ok y → (x : A) × (r ≡ Ok x) × (f x ≡ Ok y)

@@ -5,11 +5,11 @@ use Rattle.xdr.specs.Items.{SpellsU32}
 use Rattle.xdr.specs.Reading.{Cursor, Reading, Takes, u32_at, u64_at, bool_at, fixed_at, opaque_at}
 use Rattle.xdr.proofs.Numbers.{u32_forth, u32_back, u64_forth, u64_back, bool_forth, bool_back}
 use Rattle.xdr.proofs.Opaques.{fixed_forth, fixed_back, opaque_forth, opaque_back}
-use Rattle.nfs_types.specs.Rows.{Item, Word, Long, Fixed, Opaque, SpellsItem, Spells, text, word_row, long_row, flag, option_row}
-use Rattle.nfs_types.specs.Forms.{◌&◌, made, given, there_at, option_at, arm_at, union_at}
-use Rattle.nfs_types.specs.Exact.{IsExact, IsReadAgain}
-use Rattle.nfs_types.proofs.Texts.{spells_text}
-use Rattle.nfs_types.proofs.Taken.{bind_ok, bind_is, got, got_is, moved, takes_none, none_taken, takes_one, one_taken, takes_then, takes_parts}
+use Rattle.xdr.specs.Rows.{Item, Word, Long, Fixed, Opaque, SpellsItem, Spells, text, word_row, long_row, flag, option_row}
+use Rattle.xdr.specs.Forms.{◌&◌, map_at, constant_at, presence_at, option_at, arm_at, union_at}
+use Rattle.xdr.specs.Exact.{IsExact, IsReadAgain}
+use Rattle.xdr.proofs.Texts.{spells_text}
+use Rattle.xdr.proofs.Taken.{bind_ok, bind_is, got, got_is, moved, takes_none, none_taken, takes_one, one_taken, takes_then, takes_parts}
 
 -- what was taken under a part of a fact
 retaken : {A B : Type 0} (S : List ℕ → A → Type 0) (T : List ℕ → B → Type 0) (c d : Cursor) (x : A) (y : B) → ((bytes : List ℕ) → S bytes x → T bytes y) → Takes S c x d → Takes T c y d
@@ -57,23 +57,23 @@ pub both : {A B : Type 0} (r : Cursor → Reading A) (s : Cursor → Reading B) 
 both r s p q f g c d t = (both_forth r s p q f g c d t, both_back r s p q f g c d t)
 
 -- what is made of a value, and can be taken apart again
-pub made_forth : {A B : Type 0} (make : A → B) (r : Cursor → Reading A) (p : A → List Item) → IsExact r p → (c d : Cursor) (y : B) → made make r c ≡ Ok (y, d) → (x : A) × (make x ≡ y) × Takes Spells c (p x) d
+pub made_forth : {A B : Type 0} (make : A → B) (r : Cursor → Reading A) (p : A → List Item) → IsExact r p → (c d : Cursor) (y : B) → map_at make r c ≡ Ok (y, d) → (x : A) × (make x ≡ y) × Takes Spells c (p x) d
 made_forth make r p f c d y e =
     let x = bind_ok (r c) _ _ e in
     let same = got_is (make x.0.0) y x.0.1 d x.2 in
     (x.0.0, same.0, moved c x.0.1 d (p x.0.0) (p x.0.0) refl same.1 ((f c x.0.1 x.0.0).0 x.1))
 
-pub made_back : {A B : Type 0} (make : A → B) (r : Cursor → Reading A) (p : A → List Item) → IsExact r p → (c d : Cursor) (x : A) → Takes Spells c (p x) d → made make r c ≡ Ok (make x, d)
+pub made_back : {A B : Type 0} (make : A → B) (r : Cursor → Reading A) (p : A → List Item) → IsExact r p → (c d : Cursor) (x : A) → Takes Spells c (p x) d → map_at make r c ≡ Ok (make x, d)
 made_back make r p f c d x t = bind_is (r c) _ (x, d) _ ((f c d x).1 t) refl
 
-pub remade : {A B : Type 0} (make : A → B) (parts : B → A) (r : Cursor → Reading A) (p : A → List Item) (q : B → List Item) → IsExact r p → ((y : B) → make (parts y) ≡ y) → ((x : A) → q (make x) ≡ p x) → IsExact (made make r) q
+pub remade : {A B : Type 0} (make : A → B) (parts : B → A) (r : Cursor → Reading A) (p : A → List Item) (q : B → List Item) → IsExact r p → ((y : B) → make (parts y) ≡ y) → ((x : A) → q (make x) ≡ p x) → IsExact (map_at make r) q
 remade {B = B} make parts r p q f whole same c d y = (
   λ e. let x = made_forth make r p f c d y e in moved c d d (p x.0) (q y) (sym (same x.0) ∙ ap q x.1) refl x.2,
-  λ t. subst (λ (k : B). made make r c ≡ Ok (k, d)) (whole y) (made_back make r p f c d (parts y) (moved c d d (q y) (p (parts y)) (ap q (sym (whole y)) ∙ same (parts y)) refl t)),
+  λ t. subst (λ (k : B). map_at make r c ≡ Ok (k, d)) (whole y) (made_back make r p f c d (parts y) (moved c d d (q y) (p (parts y)) (ap q (sym (whole y)) ∙ same (parts y)) refl t)),
 )
 
 -- a value that may be left out
-there_forth : {A : Type 0} (r : Cursor → Reading A) (p : A → List Item) → IsExact r p → (b : Bool) (c d : Cursor) (y : Option A) → there_at r b c ≡ Ok (y, d) → (tail : List Item) × (option_row p y ≡ Word (flag b) ∷ tail) × Takes Spells c tail d
+there_forth : {A : Type 0} (r : Cursor → Reading A) (p : A → List Item) → IsExact r p → (b : Bool) (c d : Cursor) (y : Option A) → presence_at r b c ≡ Ok (y, d) → (tail : List Item) × (option_row p y ≡ Word (flag b) ∷ tail) × Takes Spells c tail d
 there_forth r p f false c d y e = let same = got_is None y c d e in ([], ap (option_row p) (sym same.0), takes_none c d same.1)
 there_forth r p f true c d y e =
     let x = bind_ok (r c) _ _ e in
@@ -114,16 +114,16 @@ pub record HasArm {A : Type 0} (row : A → List Item) (arms : List (ℕ × (Cur
   pub head : row y ≡ Word word ∷ tail
   pub reads : (place : ℕ) (c d : Cursor) → Takes Spells c tail d → arm_at arms word place c ≡ Ok (y, d)
 
-pub given_arm : {A : Type 0} (row : A → List Item) (k : ℕ) (x : A) → row x ≡ Word k ∷ [] → IsArm row k (given x)
+pub given_arm : {A : Type 0} (row : A → List Item) (k : ℕ) (x : A) → row x ≡ Word k ∷ [] → IsArm row k (constant_at x)
 given_arm row k x h c d y e = let same = got_is x y c d e in ([], ap row (sym same.0) ∙ h, takes_none c d same.1)
 
-pub made_arm : {A B : Type 0} (row : B → List Item) (k : ℕ) (make : A → B) (r : Cursor → Reading A) (p : A → List Item) → IsExact r p → ((x : A) → row (make x) ≡ Word k ∷ p x) → IsArm row k (made make r)
+pub made_arm : {A B : Type 0} (row : B → List Item) (k : ℕ) (make : A → B) (r : Cursor → Reading A) (p : A → List Item) → IsExact r p → ((x : A) → row (make x) ≡ Word k ∷ p x) → IsArm row k (map_at make r)
 made_arm row k make r p f h c d y e = let x = made_forth make r p f c d y e in (p x.0, ap row (sym x.1) ∙ h x.0, x.2)
 
-pub has_given : {A : Type 0} (row : A → List Item) (arms : List (ℕ × (Cursor → Reading A))) (k : ℕ) (x : A) → row x ≡ Word k ∷ [] → ((place : ℕ) (c : Cursor) → arm_at arms k place c ≡ given x c) → HasArm row arms x
+pub has_given : {A : Type 0} (row : A → List Item) (arms : List (ℕ × (Cursor → Reading A))) (k : ℕ) (x : A) → row x ≡ Word k ∷ [] → ((place : ℕ) (c : Cursor) → arm_at arms k place c ≡ constant_at x c) → HasArm row arms x
 has_given row arms k x h picks = record { word = k; tail = []; head = h; reads = λ place c d t. picks place c ∙ ap (got x) (none_taken c d t) }
 
-pub has_made : {A B : Type 0} (row : B → List Item) (arms : List (ℕ × (Cursor → Reading B))) (k : ℕ) (make : A → B) (r : Cursor → Reading A) (p : A → List Item) → IsExact r p → (x : A) → row (make x) ≡ Word k ∷ p x → ((place : ℕ) (c : Cursor) → arm_at arms k place c ≡ made make r c) → HasArm row arms (make x)
+pub has_made : {A B : Type 0} (row : B → List Item) (arms : List (ℕ × (Cursor → Reading B))) (k : ℕ) (make : A → B) (r : Cursor → Reading A) (p : A → List Item) → IsExact r p → (x : A) → row (make x) ≡ Word k ∷ p x → ((place : ℕ) (c : Cursor) → arm_at arms k place c ≡ map_at make r c) → HasArm row arms (make x)
 has_made row arms k make r p f x h picks = record { word = k; tail = p x; head = h; reads = λ place c d t. picks place c ∙ made_back make r p f c d x t }
 
 arm_forth : {A : Type 0} (row : A → List Item) (arms : List (ℕ × (Cursor → Reading A))) → AreArms row arms → (n place : ℕ) (c d : Cursor) (y : A) → arm_at arms n place c ≡ Ok (y, d) → (tail : List Item) × (row y ≡ Word n ∷ tail) × Takes Spells c tail d

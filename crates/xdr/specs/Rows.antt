@@ -31,12 +31,12 @@ item_text (Fixed len v) = fixed_text v
 item_text (Opaque most v) = opaque_text v
 
 -- what is there once a row was written behind `done`, and what is written for a row
-abbrev pub written : List ℕ → List Item → List ℕ
-written done [] = done
-written done (item ∷ row) = written (done ++ item_text item) row
+abbrev pub joined_text : List ℕ → List Item → List ℕ
+joined_text done [] = done
+joined_text done (item ∷ row) = joined_text (done ++ item_text item) row
 
 abbrev pub text : List Item → List ℕ
-text row = written [] row
+text row = joined_text [] row
 
 -- an item that can be spelled
 abbrev pub Fits : Item → Type 0

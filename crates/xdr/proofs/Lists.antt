@@ -3,13 +3,13 @@ use Rattle.std.proofs.Common.{◌≡◌, ℕ, zero, suc, ◌+◌, ◌≤◌, ◌
 use Rattle.std.proofs.lemmas.Bool.{eqb-true, eq-eqb}
 use Rattle.xdr.specs.declared.fault.XdrFault.TheVariants.{BadChoice}
 use Rattle.xdr.specs.Reading.{Cursor, Reading, Takes, u32_at, bool_at}
-use Rattle.nfs_types.specs.Rows.{Item, Word, Spells, word_row, flag}
-use Rattle.nfs_types.specs.Exact.{IsExact}
-use Rattle.nfs_types.proofs.Taken.{bind_ok, bind_is, got, got_is, moved, takes_none, none_taken, one_taken, takes_then, takes_parts}
-use Rattle.nfs_types.proofs.Exact.{exact_u32, flag_row, exact_bool}
-use Rattle.nfs_wire.specs.Lists.{list_row, more_at, list_from, list_at, after, nothing, zeros_row, zeros_at}
+use Rattle.xdr.specs.Rows.{Item, Word, Spells, word_row, flag}
+use Rattle.xdr.specs.Exact.{IsExact}
+use Rattle.xdr.proofs.Taken.{bind_ok, bind_is, got, got_is, moved, takes_none, none_taken, one_taken, takes_then, takes_parts}
+use Rattle.xdr.proofs.Exact.{exact_u32, flag_row, exact_bool}
+use Rattle.xdr.specs.Lists.{list_row, more_at, list_from, list_at, behind_word, nothing_at, zeros_row, zeros_at}
 
-after_forth : {A : Type 0} (k : ℕ) (r : Cursor → Reading A) (p : A → List Item) → IsExact r p → (c d : Cursor) (y : A) → after k r c ≡ Ok (y, d) → Takes Spells c (Word k ∷ p y) d
+after_forth : {A : Type 0} (k : ℕ) (r : Cursor → Reading A) (p : A → List Item) → IsExact r p → (c d : Cursor) (y : A) → behind_word k r c ≡ Ok (y, d) → Takes Spells c (Word k ∷ p y) d
 after_forth k r p f c d y e =
     let w = bind_ok (u32_at c) _ _ e in
     go w.0.0 w.0.1 w.1 (w.0.0 == k) refl w.2 where
@@ -17,16 +17,16 @@ after_forth k r p f c d y e =
       go n b h true q g = takes_then c b d (word_row k) (p y) (moved c b b (word_row n) (word_row k) (ap word_row (eqb-true n k q)) refl ((exact_u32 c b n).0 h)) ((f b d y).0 g)
       go n b h false q g = cc
 
-after_back : {A : Type 0} (k : ℕ) (r : Cursor → Reading A) (p : A → List Item) → IsExact r p → (c d : Cursor) (y : A) → Takes Spells c (Word k ∷ p y) d → after k r c ≡ Ok (y, d)
+after_back : {A : Type 0} (k : ℕ) (r : Cursor → Reading A) (p : A → List Item) → IsExact r p → (c d : Cursor) (y : A) → Takes Spells c (Word k ∷ p y) d → behind_word k r c ≡ Ok (y, d)
 after_back {A = A} k r p f c d y t =
     let parts = takes_parts c d (word_row k) (p y) t in
     let b = parts.between in
     bind_is (u32_at c) _ (k, b) _ ((exact_u32 c b k).1 parts.first) (ap (λ (t : Bool). cond t (r b) (Err (BadChoice c.place))) (eq-eqb k k refl) ∙ (f b d y).1 parts.second)
 
-pub exact_after : {A : Type 0} (k : ℕ) (r : Cursor → Reading A) (p : A → List Item) → IsExact r p → IsExact (after k r) (λ y. Word k ∷ p y)
+pub exact_after : {A : Type 0} (k : ℕ) (r : Cursor → Reading A) (p : A → List Item) → IsExact r p → IsExact (behind_word k r) (λ y. Word k ∷ p y)
 exact_after k r p f c d y = (after_forth k r p f c d y, after_back k r p f c d y)
 
-pub exact_nothing : IsExact nothing (λ (u : Unit {0}). [])
+pub exact_nothing : IsExact nothing_at (λ (u : Unit {0}). [])
 exact_nothing c d u = (λ e. takes_none c d (got_is tt u c d e).1, λ t. ap (got tt) (none_taken c d t))
 
 pub exact_zeros : (n : ℕ) → IsExact (zeros_at n) (λ (u : Unit {0}). zeros_row n)

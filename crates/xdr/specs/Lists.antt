@@ -2,8 +2,8 @@
 use Rattle.std.specs.Prelude.{ℕ, zero, suc, Bool, true, false, ◌==◌, if◌then◌else◌, List, [], ◌∷◌, ◌++◌, length, Ok, Err}
 use Rattle.xdr.specs.declared.fault.XdrFault.TheVariants.{Short, BadChoice}
 use Rattle.xdr.specs.Reading.{Cursor, Reading, u32_at, bool_at}
-use Rattle.nfs_types.specs.Rows.{Item, Word}
-use Rattle.nfs_types.specs.Forms.{◌>>=◌, given}
+use Rattle.xdr.specs.Rows.{Item, Word}
+use Rattle.xdr.specs.Forms.{◌>>=◌, constant_at}
 
 -- each value behind 1, and 0 behind the last one (RFC 4506 section 4.19)
 abbrev pub list_row : {A : Type 0} → (A → List Item) → List A → List Item
@@ -30,13 +30,13 @@ abbrev pub list_at : {A : Type 0} → (Cursor → Reading A) → Cursor → Read
 list_at r c = list_from (suc (length c.left)) r c
 
 -- a word that is always the same, and what follows it
-abbrev pub after : {A : Type 0} → ℕ → (Cursor → Reading A) → Cursor → Reading A
-after k r c = do
+abbrev pub behind_word : {A : Type 0} → ℕ → (Cursor → Reading A) → Cursor → Reading A
+behind_word k r c = do
   w ← u32_at c
   if w.0 == k then r w.1 else Err (BadChoice c.place)
 
-abbrev pub nothing : Cursor → Reading (Unit {0})
-nothing c = given tt c
+abbrev pub nothing_at : Cursor → Reading (Unit {0})
+nothing_at c = constant_at tt c
 
 -- words that are all 0
 abbrev pub zeros_row : ℕ → List Item
@@ -44,5 +44,5 @@ zeros_row zero = []
 zeros_row (suc n) = Word 0 ∷ zeros_row n
 
 abbrev pub zeros_at : ℕ → Cursor → Reading (Unit {0})
-zeros_at zero c = nothing c
-zeros_at (suc n) c = after 0 (zeros_at n) c
+zeros_at zero c = nothing_at c
+zeros_at (suc n) c = behind_word 0 (zeros_at n) c

@@ -17,26 +17,26 @@ r & s = λ c. do
   Ok ((x.0, y.0), y.1)
 
 -- what is made of a value
-abbrev pub made : {A B : Type 0} → (A → B) → (Cursor → Reading A) → Cursor → Reading B
-made make r c = do
+abbrev pub map_at : {A B : Type 0} → (A → B) → (Cursor → Reading A) → Cursor → Reading B
+map_at make r c = do
   x ← r c
   Ok (make x.0, x.1)
 
 -- nothing is taken
-abbrev pub given : {A : Type 0} → A → Cursor → Reading A
-given x c = Ok (x, c)
+abbrev pub constant_at : {A : Type 0} → A → Cursor → Reading A
+constant_at x c = Ok (x, c)
 
 -- a value that may be left out (RFC 4506 section 4.19)
-abbrev pub there_at : {A : Type 0} → (Cursor → Reading A) → Bool → Cursor → Reading (Option A)
-there_at r false c = Ok (None, c)
-there_at r true c = do
+abbrev pub presence_at : {A : Type 0} → (Cursor → Reading A) → Bool → Cursor → Reading (Option A)
+presence_at r false c = Ok (None, c)
+presence_at r true c = do
   x ← r c
   Ok (Some x.0, x.1)
 
 abbrev pub option_at : {A : Type 0} → (Cursor → Reading A) → Cursor → Reading (Option A)
 option_at r c = do
   there ← bool_at c
-  there_at r there.0 there.1
+  presence_at r there.0 there.1
 
 -- a word that says which of these follows (RFC 4506 section 4.15)
 abbrev pub arm_at : {A : Type 0} → List (ℕ × (Cursor → Reading A)) → ℕ → ℕ → Cursor → Reading A
