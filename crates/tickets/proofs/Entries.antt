@@ -8,7 +8,7 @@ use Rattle.std.specs.BTreeMap.{insert_entry, is_at}
 use Rattle.std.specs.Map.{remove_entry, lookup}
 use Rattle.std.proofs.lemmas.Bool.{eqb-true, ne_eqb}
 use Rattle.tickets.specs.declared.desk.Asker.{Asker}
-use Rattle.tickets.specs.Desk.{TicketId, RiseFrom, AreUpTo, IsSound, issued, answered, dropped, cancelled}
+use Rattle.tickets.specs.Desk.{TicketId, RiseFrom, AreUpTo, IsSound, with_issued, with_answered, with_dropped, with_cancelled}
 use Rattle.tickets.specs.Entries.{ticket_of, tickets_of, desk_of}
 
 -- An entry above all others comes last.
@@ -75,7 +75,7 @@ tickets_of-filter (e ∷ es) conn = go (not (e.1.conn == conn)) (tickets_of-filt
 
 -- A change of the map under the desk's rule is the change of the desk.
 pub desk_of-insert_entry : (last sent n : ℕ) (a : Asker) (es new : List (ℕ × Asker)) → IsSound (desk_of last es sent) → n ≡ last + 1
-    → new ≡ insert_entry nat_cmp es n a → desk_of n new sent ≡ issued a.conn a.xid (desk_of last es sent)
+    → new ≡ insert_entry nat_cmp es n a → desk_of n new sent ≡ with_issued a.conn a.xid (desk_of last es sent)
 desk_of-insert_entry last sent n a es new s next is = λ i. record {
   last = next i;
   waiting = (ap tickets_of is ∙ (tickets_of-insert_entry es n last a s.issued_before (omega arith) ∙ ap (λ m. tickets_of es ++ ticket_of m a ∷ []) next)) i;
@@ -83,18 +83,18 @@ desk_of-insert_entry last sent n a es new s next is = λ i. record {
 }
 
 pub desk_of-remove_entry : (last sent n : ℕ) (es new : List (ℕ × Asker)) → IsSound (desk_of last es sent)
-    → new ≡ remove_entry (is_at (nat_cmp n)) es → desk_of last new sent ≡ dropped n (desk_of last es sent)
+    → new ≡ remove_entry (is_at (nat_cmp n)) es → desk_of last new sent ≡ with_dropped n (desk_of last es sent)
 desk_of-remove_entry last sent n es new s is =
     ap (λ ts. record { last = last; waiting = ts; sent = sent }) (ap tickets_of is ∙ tickets_of-remove_entry es n 0 s.rising)
 
 pub desk_of-filter : (last sent conn : ℕ) (es new : List (ℕ × Asker))
-    → new ≡ filter (λ e. not (e.1.conn == conn)) es → desk_of last new sent ≡ cancelled conn (desk_of last es sent)
+    → new ≡ filter (λ e. not (e.1.conn == conn)) es → desk_of last new sent ≡ with_cancelled conn (desk_of last es sent)
 desk_of-filter last sent conn es new is =
     ap (λ ts. record { last = last; waiting = ts; sent = sent }) (ap tickets_of is ∙ tickets_of-filter es conn)
 
 pub desk_of-answered : (last sent sent' n : ℕ) (es new : List (ℕ × Asker)) (o : Option Asker) → IsSound (desk_of last es sent)
     → new ≡ remove_entry (is_at (nat_cmp n)) es → o ≡ lookup (is_at (nat_cmp n)) es → sent' ≡ sent + cond (is_some o) 1 0
-    → desk_of last new sent' ≡ answered n (desk_of last es sent)
+    → desk_of last new sent' ≡ with_answered n (desk_of last es sent)
 desk_of-answered last sent sent' n es new o s is value count = λ i. record {
   last = last;
   waiting = (ap tickets_of is ∙ tickets_of-remove_entry es n 0 s.rising) i;

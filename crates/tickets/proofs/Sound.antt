@@ -1,7 +1,7 @@
 -- Each call leaves a sound desk sound.
 use Rattle.std.proofs.Common.{ℕ, ◌+◌, ◌<◌, ◌≤◌, Bool, true, false, not, cond, List, [], ◌∷◌, ◌++◌, length, Some, arith, length-append}
 use Rattle.std.specs.Prelude.{◌==◌, find, filter, is_some}
-use Rattle.tickets.specs.Desk.{TicketId, DeskState, new_desk, next_ticket, issued, answered, dropped, cancelled, RiseFrom, AreUpTo, IsSound}
+use Rattle.tickets.specs.Desk.{TicketId, DeskState, new_desk, next_ticket, with_issued, with_answered, with_dropped, with_cancelled, RiseFrom, AreUpTo, IsSound}
 
 RiseFrom-lower : (ts : List TicketId) (low low' : ℕ) → low' ≤ low → RiseFrom low ts → RiseFrom low' ts
 RiseFrom-lower [] low low' le rise = tt
@@ -52,7 +52,7 @@ length-filter-found q (t ∷ ts) = go (q t) (length-filter-found q ts) (length-f
 pub sound_new : IsSound new_desk
 sound_new = record { rising = tt; issued_before = tt; counted = omega arith }
 
-pub sound_issued : (conn xid : ℕ) (d : DeskState) → IsSound d → IsSound (issued conn xid d)
+pub sound_issued : (conn xid : ℕ) (d : DeskState) → IsSound d → IsSound (with_issued conn xid d)
 sound_issued conn xid d s = record {
   rising = RiseFrom-push d.waiting (next_ticket conn xid d) 0 d.last (omega arith) (omega arith) s.issued_before s.rising;
   issued_before = AreUpTo-push d.waiting (next_ticket conn xid d) d.last (omega arith) s.issued_before;
@@ -66,13 +66,13 @@ sound_filtered p d s = record {
   counted = let h = s.counted in omega (arith, length-filter-le p d.waiting);
 }
 
-pub sound_dropped : (n : ℕ) (d : DeskState) → IsSound d → IsSound (dropped n d)
+pub sound_dropped : (n : ℕ) (d : DeskState) → IsSound d → IsSound (with_dropped n d)
 sound_dropped n d s = sound_filtered (λ t. not (t.number == n)) d s
 
-pub sound_cancelled : (conn : ℕ) (d : DeskState) → IsSound d → IsSound (cancelled conn d)
+pub sound_cancelled : (conn : ℕ) (d : DeskState) → IsSound d → IsSound (with_cancelled conn d)
 sound_cancelled conn d s = sound_filtered (λ t. not (t.conn == conn)) d s
 
-pub sound_answered : (n : ℕ) (d : DeskState) → IsSound d → IsSound (answered n d)
+pub sound_answered : (n : ℕ) (d : DeskState) → IsSound d → IsSound (with_answered n d)
 sound_answered n d s = record {
   rising = RiseFrom-filter (λ t. not (t.number == n)) d.waiting 0 s.rising;
   issued_before = AreUpTo-filter (λ t. not (t.number == n)) d.waiting d.last s.issued_before;

@@ -18,28 +18,28 @@ abbrev pub new_desk : DeskState
 new_desk = record { last = 0; waiting = []; sent = 0 }
 
 -- the ticket of this number that waits
-abbrev pub owed : ℕ → DeskState → Option TicketId
-owed n d = find (λ t. t.number == n) d.waiting
+abbrev pub waiting_ticket : ℕ → DeskState → Option TicketId
+waiting_ticket n d = find (λ t. t.number == n) d.waiting
 
 -- the ticket that is issued next
 abbrev pub next_ticket : ℕ → ℕ → DeskState → TicketId
 next_ticket conn xid d = record { conn = conn; number = d.last + 1; xid = xid }
 
 -- the next number joins those that wait
-abbrev pub issued : ℕ → ℕ → DeskState → DeskState
-issued conn xid d = record d { last = d.last + 1; waiting = d.waiting ++ next_ticket conn xid d ∷ [] }
+abbrev pub with_issued : ℕ → ℕ → DeskState → DeskState
+with_issued conn xid d = record d { last = d.last + 1; waiting = d.waiting ++ next_ticket conn xid d ∷ [] }
 
 -- this number waits no more
-abbrev pub dropped : ℕ → DeskState → DeskState
-dropped n d = record d { waiting = filter (λ t. not (t.number == n)) d.waiting }
+abbrev pub with_dropped : ℕ → DeskState → DeskState
+with_dropped n d = record d { waiting = filter (λ t. not (t.number == n)) d.waiting }
 
 -- where this number waits it is sent its reply, and waits no more
-abbrev pub answered : ℕ → DeskState → DeskState
-answered n d = record (dropped n d) { sent = d.sent + (if is_some (owed n d) then 1 else 0) }
+abbrev pub with_answered : ℕ → DeskState → DeskState
+with_answered n d = record (with_dropped n d) { sent = d.sent + (if is_some (waiting_ticket n d) then 1 else 0) }
 
 -- no number of this connection waits
-abbrev pub cancelled : ℕ → DeskState → DeskState
-cancelled conn d = record d { waiting = filter (λ t. not (t.conn == conn)) d.waiting }
+abbrev pub with_cancelled : ℕ → DeskState → DeskState
+with_cancelled conn d = record d { waiting = filter (λ t. not (t.conn == conn)) d.waiting }
 
 -- each number is greater than the one before it, the first than `low`
 abbrev pub RiseFrom : ℕ → List TicketId → Type 0

@@ -1,6 +1,6 @@
 // The desk, and the tickets that it issues.
 ghost use Rattle.std.specs.Prelude.{◌≡◌, ◌-◌, ◌^◌, ◌↔◌, length, IfOk, OnOk, OnErr, IfSome, Option, None, option_map};
-ghost use Rattle.tickets.specs.Desk.{new_desk, owed, next_ticket, issued, answered, dropped, cancelled, IsSound};
+ghost use Rattle.tickets.specs.Desk.{new_desk, waiting_ticket, next_ticket, with_issued, with_answered, with_dropped, with_cancelled, IsSound};
 ghost use Rattle.tickets.specs.Entries.{ticket_of};
 
 use crate::{Answer, Body};
@@ -106,7 +106,7 @@ impl ReplyDesk {
     /// Issues the next number to a request of a connection, and the number waits. A fault changes nothing.
     pub fn issue(&mut self, conn: u32, xid: u32) -> Result<Ticket, IssueFault>
         ensures ticket { IfOk result (λ t. t ≡ next_ticket conn xid self.old) }
-        ensures joins { OnOk result (self.new ≡ issued conn xid self.old) }
+        ensures joins { OnOk result (self.new ≡ with_issued conn xid self.old) }
         ensures err { OnErr result (self.new ≡ self.old) }
         ensures last { (result ≡ Err IssueFault.Last) ↔ (self.old.last ≡ 2 ^ 64 - 1) }
         ensures sound { IsSound self.new }
@@ -125,9 +125,9 @@ impl ReplyDesk {
     /// Spends the answer's ticket. Where its number waits, the reply goes to whoever the number was issued to, and the
     /// number waits no more. Takes no memory.
     pub fn send(&mut self, answer: Answer) -> Sent
-        ensures reply { IfSome (owed answer.ticket.number self.old) (λ t. result ≡ Sent.Reply t.conn t.xid answer.body) }
-        ensures cancelled { (result ≡ Sent.Cancelled) ↔ (owed answer.ticket.number self.old ≡ None) }
-        ensures after { self.new ≡ answered answer.ticket.number self.old }
+        ensures reply { IfSome (waiting_ticket answer.ticket.number self.old) (λ t. result ≡ Sent.Reply t.conn t.xid answer.body) }
+        ensures cancelled { (result ≡ Sent.Cancelled) ↔ (waiting_ticket answer.ticket.number self.old ≡ None) }
+        ensures after { self.new ≡ with_answered answer.ticket.number self.old }
         ensures sound { IsSound self.new }
     {
         let Answer { ticket, body } = answer;
@@ -139,8 +139,8 @@ impl ReplyDesk {
 
     // Who waits under a number, who then waits no more and is counted as answered.
     fn take_asker(&mut self, number: u64) -> Option<Asker>
-        ensures asker { option_map (ticket_of number) result ≡ owed number self.old }
-        ensures after { self.new ≡ answered number self.old }
+        ensures asker { option_map (ticket_of number) result ≡ waiting_ticket number self.old }
+        ensures after { self.new ≡ with_answered number self.old }
         ensures sound { IsSound self.new }
     {
         let asker = self.waiting.remove(&number)?;
@@ -150,7 +150,7 @@ impl ReplyDesk {
 
     /// Spends the ticket without a reply. Its number waits no more. Takes no memory.
     pub fn drop_ticket(&mut self, ticket: Ticket)
-        ensures after { self.new ≡ dropped ticket.number self.old }
+        ensures after { self.new ≡ with_dropped ticket.number self.old }
         ensures sound { IsSound self.new }
     {
         let _ = self.waiting.remove(&ticket.number);
@@ -158,7 +158,7 @@ impl ReplyDesk {
 
     /// Ends a connection: none of its numbers waits any more. Takes no memory.
     pub fn cancel_conn(&mut self, conn: u32)
-        ensures after { self.new ≡ cancelled conn self.old }
+        ensures after { self.new ≡ with_cancelled conn self.old }
         ensures sound { IsSound self.new }
     {
         self.waiting.retain(|_, asker| asker.conn != conn);

@@ -1,5 +1,5 @@
 use Rattle.std.proofs.Common.{sym, ◌∙◌, ap, subst}
-use Rattle.tickets.specs.Desk.{issued, IsSound}
+use Rattle.tickets.specs.Desk.{with_issued, IsSound}
 use Rattle.tickets.proofs.Entries.{desk_of-insert_entry}
 use Rattle.tickets.proofs.Sound.{sound_issued}
 use Rattle.tickets.proofs.desk.ReplyDesk.issue.Goals as goal
@@ -10,7 +10,7 @@ invariant_of-self-2 c = subst IsSound (sym (desk_of-insert_entry _ _ _ _ _ _ c.s
 
 -- src/desk.rt:107:5
 pub returns-clause-joins : goal.returns-clause-joins
-returns-clause-joins c = desk_of-insert_entry _ _ _ _ _ _ c.self.invariant c.in-Some.ensures.1 c.in-Ok.ensures.entries ∙ ap (issued c.args.conn c.args.xid) c.self.view_is
+returns-clause-joins c = desk_of-insert_entry _ _ _ _ _ _ c.self.invariant c.in-Some.ensures.1 c.in-Ok.ensures.entries ∙ ap (with_issued c.args.conn c.args.xid) c.self.view_is
 
 -- src/desk.rt:107:5
 pub returns-clause-sound : goal.returns-clause-sound
