@@ -1,0 +1,3 @@
+pub mod Access
+pub mod Items
+pub mod Rules
