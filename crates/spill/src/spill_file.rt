@@ -1,9 +1,10 @@
 // Bytes in extents of a device.
-ghost use Rattle.std.specs.Prelude.{◌≡◌, ◌≢◌, ℕ, ◌+◌, ◌<◌, ◌≤◌, ◌↔◌, [], ◌∷◌, ◌++◌, IfOk, OnOk, OnErr, IsErrOf, Err, length, vec_len, All, Contains};
+ghost use Rattle.std.specs.Prelude.{◌≡◌, ◌≢◌, ℕ, ◌+◌, ◌<◌, ◌≤◌, ◌↔◌, [], ◌∷◌, ◌++◌, IfOk, OnOk, OnErr, IsErrOf, Err, length, vec_len, All, Contains, false, true};
 ghost use Rattle.gw_outside.specs.Causes.{Rose};
+ghost use Rattle.gw_outside.specs.Tally.{one_call};
 ghost use Rattle.spill_region.specs.Extents.{AreApart, end_of, next_span, with_placed, with_freed};
 ghost use Rattle.spill.specs.Device.{bytes_from};
-ghost use Rattle.spill.specs.Kept.{bytes_at, extents_of, kept_without, region_of};
+ghost use Rattle.spill.specs.Kept.{bytes_at, extents_of, kept_without, region_after_fault, region_of};
 
 use crate::{SpillDevice, SpillFault};
 use spill_region::{Extent, PlaceFault, Region};
@@ -43,6 +44,8 @@ fn read_bytes<D: SpillDevice>(
     ensures memory_same { IsErrOf result GetFail.Memory → device.new ≡ device.old }
     ensures fault { IsErrOf result GetFail.Fault → Rose (D.count device.old) (D.count device.new) }
     ensures later { D.count device.old ≤ D.count device.new }
+    ensures done_counted { OnOk result (D.tally device.new ≡ one_call false (D.tally device.old)) }
+    ensures fault_counted { IsErrOf result GetFail.Fault → D.tally device.new ≡ one_call true (D.tally device.old) }
 {
     let Ok(mut bytes) = vec![in alloc; 0; len] else {
         return Err(GetFail::Memory);
@@ -66,13 +69,13 @@ impl<D: SpillDevice> Model for SpillFile<D> {
 
     ghost Value = { SpillState };
 
-    ghost view = { λ s. spill_view s.region (D.byte s.device) (D.count s.device) };
+    ghost view = { λ s. spill_view s.region (D.byte s.device) (D.count s.device) (D.tally s.device) };
 }
 
 impl<D: SpillDevice> SpillFile<D> {
     /// A file without extents over the first `size` bytes of a device.
     pub fn new(alloc: Global, device: D, size: u64) -> Self
-        ensures { result ≡ record { size = size; next = 0; kept = []; faults = D.count device } }
+        ensures { result ≡ record { size = size; next = 0; kept = []; faults = D.count device; tally = D.tally device } }
     {
         SpillFile {
             alloc,
@@ -83,7 +86,8 @@ impl<D: SpillDevice> SpillFile<D> {
 
     /// Gives the device back.
     pub fn into_device(self) -> D
-        ensures { D.count result ≡ self.faults }
+        ensures count { D.count result ≡ self.faults }
+        ensures tally { D.tally result ≡ self.tally }
     {
         self.device
     }
@@ -112,10 +116,14 @@ impl<D: SpillDevice> SpillFile<D> {
 
         // An extent whose write failed is freed, but was placed.
         ensures fault { IsErrOf result SpillFail.Fault → Rose self.old.faults self.new.faults }
-        ensures fault_region { IsErrOf result SpillFail.Fault → region_of self.new ≡ with_freed (with_placed (region_of self.old) (length bytes.now)) (next_span (region_of self.old) (length bytes.now)) }
+        ensures fault_region { IsErrOf result SpillFail.Fault → region_of self.new ≡ region_after_fault (region_of self.old) (length bytes.now) }
         ensures err { OnErr result (extents_of self.new.kept ≡ extents_of self.old.kept) }
         ensures err_kept { OnErr result (D.tells → self.new.kept ≡ self.old.kept) }
         ensures later { self.old.faults ≤ self.new.faults }
+
+        // One call is made, unless it is refused for want of room or memory.
+        ensures done_counted { OnOk result (self.new.tally ≡ one_call false self.old.tally) }
+        ensures fault_counted { IsErrOf result SpillFail.Fault → self.new.tally ≡ one_call true self.old.tally }
     {
         let extent = match self.region.place(bytes.len() as u32) {
             Ok(extent) => extent,
@@ -141,6 +149,8 @@ impl<D: SpillDevice> SpillFile<D> {
         ensures memory_same { IsErrOf result GetFail.Memory → self.new ≡ self.old }
         ensures fault { IsErrOf result GetFail.Fault → Rose self.old.faults self.new.faults }
         ensures later { self.old.faults ≤ self.new.faults }
+        ensures done_counted { OnOk result (self.new.tally ≡ one_call false self.old.tally) }
+        ensures fault_counted { IsErrOf result GetFail.Fault → self.new.tally ≡ one_call true self.old.tally }
     {
         let len = extent.len() as usize;
         read_bytes(&mut self.device, self.alloc, extent.start(), len)
@@ -152,6 +162,7 @@ impl<D: SpillDevice> SpillFile<D> {
         ensures region { region_of self.new ≡ with_freed (region_of self.old) extent }
         ensures kept { self.new.kept ≡ kept_without extent self.old.kept }
         ensures faults { self.new.faults ≡ self.old.faults }
+        ensures tally { self.new.tally ≡ self.old.tally }
     {
         self.region.free(extent);
     }
