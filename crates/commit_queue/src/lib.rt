@@ -6,7 +6,3 @@ mod waiting;
 
 pub use laws::queue_laws;
 pub use waiting::Waiting;
-
-/// Memory was refused.
-#[derive(Clone, Copy, Debug, PartialEq, Eq)]
-pub struct NoMemory;

@@ -1,9 +1,10 @@
 // The queue with goals.
-ghost use Rattle.std.specs.Prelude.{◌≡◌, ◌+◌, ◌-◌, ◌<◌, ◌≤◌, ◌∷◌, [], ◌++◌, length, drop, find, option_map, position, slice_get, is_some, IsOk, OnOk, OnErr, if◌then◌else◌};
-ghost use Rattle.commit_queue.specs.Queue.{empty_queue, is_ready, without_ready};
+ghost use Rattle.std.specs.Prelude.{◌≡◌, ◌+◌, ◌-◌, ◌<◌, ◌≤◌, ◌∷◌, [], ◌++◌, length, drop, find, option_map, position, slice_get, is_some, IsOk, OnOk, if◌then◌else◌};
+ghost use Rattle.commit_queue.specs.Queue.{is_ready, with_commit, without_ready};
 
-use crate::NoMemory;
+use gw_model::NoMemory;
 use std::alloc::Global;
+use std::collections::VecDeque;
 use std::marker::Model;
 use tickets::Ticket;
 
@@ -26,58 +27,73 @@ impl Model for Waiter {
 /// contiguous front has to come to.
 #[derive(Drop)]
 pub struct Waiting {
-    waiters: Vec<Waiter>,
+    waiters: VecDeque<Waiter>,
+    // No goal is below it, so that a look from below it needs no scan.
+    least: u64,
 }
 
 impl Model for Waiting {
-    ghost use Rattle.std.specs.Prelude.{◌-◌, vec_len};
-    ghost use Rattle.std.specs.Vec.{vec_capacity};
-    ghost use Rattle.commit_queue.specs.Queue.{QueueState};
+    ghost use Rattle.std.specs.Prelude.{◌-◌};
+    ghost use Rattle.std.specs.VecDeque.{deque_len, deque_capacity};
+    ghost use Rattle.commit_queue.specs.Queue.{GoalsFrom, QueueState};
 
     ghost Value = { QueueState };
 
-    ghost view = { λ w. record { commits = w.waiters.items; room = vec_capacity w.waiters - vec_len w.waiters } };
+    ghost view = { λ w. record { commits = w.waiters.items; room = deque_capacity w.waiters - deque_len w.waiters } };
+
+    ghost invariant = { λ w. GoalsFrom w.least w.waiters.items };
 }
 
 impl Waiting {
     /// Makes a queue in which none waits.
     pub fn new(alloc: Global) -> Self
-        ensures { result ≡ empty_queue }
+        ensures { result.commits ≡ [] }
     {
         Waiting {
-            waiters: Vec::new(alloc),
+            waiters: VecDeque::new(alloc),
+            least: 0,
         }
     }
 
-    /// Makes room for one more. Want of memory changes nothing.
+    /// Makes room for one more. Want of memory changes no COMMIT.
     pub fn reserve(&mut self) -> Result<(), NoMemory>
         ensures ok { OnOk result (0 < self.new.room) }
         ensures grows { self.old.room ≤ self.new.room }
         ensures succeeds { 0 < self.old.room → IsOk result }
         ensures rest { self.new ≡ record self.old { room = self.new.room } }
-        ensures err { OnErr result (self.new ≡ self.old) }
     {
         self.waiters.reserve(1).map_err(|_| NoMemory)
     }
 
     /// Adds a COMMIT behind the others, in the room that there is. Takes no memory.
+    #[tactic(auto, using(crate::proofs::WaitingCommits::least_steps))]
     pub fn add(&mut self, goal: u64, ticket: Ticket)
         requires { 0 < self.old.room }
-        ensures { self.new ≡ record { commits = self.old.commits ++ record { goal = goal; ticket = ticket } ∷ []; room = self.old.room - 1 } }
+        ensures { self.new ≡ with_commit goal ticket self.old }
     {
-        self.waiters.push_reserved(Waiter { goal, ticket });
+        self.least = self.least.min(goal);
+        self.waiters.push_back_reserved(Waiter { goal, ticket });
     }
 
     /// Takes out the first whose goal is at most `reach`, or `None` where there is none. Its place is room. Takes no
     /// memory.
+    #[tactic(auto, using(crate::proofs::WaitingCommits::least_steps))]
     pub fn take_ready(&mut self, reach: u64) -> Option<Ticket>
         ensures ticket { result ≡ option_map (λ c. c.ticket) (find (is_ready reach) self.old.commits) }
         ensures others { self.new.commits ≡ without_ready reach self.old.commits }
         ensures room { self.new.room ≡ self.old.room + (if is_some result then 1 else 0) }
     {
-        let place = self.first_ready(reach)?;
-        let Waiter { goal: _, ticket } = self.waiters.remove(place);
-        Some(ticket)
+        if reach < self.least {
+            return None;
+        }
+        let Some(place) = self.first_ready(reach) else {
+            self.least = reach.saturating_add(1);
+            return None;
+        };
+        let Some(waiter) = self.waiters.remove(place) else {
+            unreachable!()
+        };
+        Some(waiter.ticket)
     }
 
     // The place of the first whose goal is at most `reach`.
@@ -88,15 +104,13 @@ impl Waiting {
     }
 
     /// Takes out the first, or `None` where none waits. Its place is room. Takes no memory.
+    #[tactic(auto, using(crate::proofs::WaitingCommits::least_steps))]
     pub fn take_first(&mut self) -> Option<Ticket>
         ensures ticket { result ≡ option_map (λ c. c.ticket) (slice_get self.old.commits 0) }
         ensures others { self.new.commits ≡ drop 1 self.old.commits }
         ensures room { self.new.room ≡ self.old.room + (if is_some result then 1 else 0) }
     {
-        if self.waiters.is_empty() {
-            return None;
-        }
-        let Waiter { goal: _, ticket } = self.waiters.remove(0);
+        let Waiter { goal: _, ticket } = self.waiters.pop_front()?;
         Some(ticket)
     }
 

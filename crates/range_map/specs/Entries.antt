@@ -21,9 +21,9 @@ abbrev pub is_new : ℕ → List Entry → Bool
 is_new number es = list_all (λ e. not (e.number == number)) es
 
 -- the entry goes behind those before it
-abbrev pub put_in : Entry → List Entry → List Entry
-put_in e [] = e ∷ []
-put_in e (x ∷ xs) = if is_before x e then x ∷ put_in e xs else e ∷ x ∷ xs
+abbrev pub with_entry : Entry → List Entry → List Entry
+with_entry e [] = e ∷ []
+with_entry e (x ∷ xs) = if is_before x e then x ∷ with_entry e xs else e ∷ x ∷ xs
 
 abbrev pub has_range : ℕ → ℕ → Entry → Bool
 has_range offset count e = e.offset == offset && e.count == count
@@ -57,10 +57,10 @@ MayReplace (Spilled extent) (Memory bytes) = ⊥
 MayReplace (Spilled extent) (Spilled another) = Unit {0}
 
 -- where its bytes end
-abbrev pub end_of : Entry → ℕ
-end_of e = e.offset + e.count
+abbrev pub entry_end : Entry → ℕ
+entry_end e = e.offset + e.count
 
 -- the greatest end, up to a limit, of the entries that begin below it
-abbrev pub goal_of : ℕ → List Entry → ℕ
-goal_of limit [] = 0
-goal_of limit (e ∷ es) = if nat_lt e.offset limit then max (min (end_of e) limit) (goal_of limit es) else goal_of limit es
+abbrev pub commit_goal : ℕ → List Entry → ℕ
+commit_goal limit [] = 0
+commit_goal limit (e ∷ es) = if nat_lt e.offset limit then max (min (entry_end e) limit) (commit_goal limit es) else commit_goal limit es

@@ -2,7 +2,7 @@
 ghost use Rattle.std.specs.Prelude.{◌≡◌, ◌^◌, ◌<◌, true, List, [], length, drop, reverse, find, slice_get, OnOk, IfErr, IfSome, IsNone, IsSomeAnd, IsTrue};
 ghost use Rattle.std.specs.Option.{option_copied};
 ghost use Rattle.range_map.specs.declared.entry.Entry.{Entry};
-ghost use Rattle.range_map.specs.Entries.{MayReplace, entry_at, goal_of, has_range, is_in_memory, is_in_order, is_new, put_in, with_place_at, with_ticket_at};
+ghost use Rattle.range_map.specs.Entries.{MayReplace, entry_at, commit_goal, has_range, is_in_memory, is_in_order, is_new, with_entry, with_place_at, with_ticket_at};
 
 use crate::{Entry, Place};
 use gw_model::Stable;
@@ -21,7 +21,7 @@ pub trait PendingMap: Drop {
     /// Puts an entry where it belongs. For want of memory it hands the entry back and changes nothing.
     fn insert(&mut self, entry: Entry) -> Result<(), Entry>
         requires { IsTrue (is_new entry.number (entries self.old)) }
-        ensures ok { OnOk result (entries self.new ≡ put_in entry (entries self.old)) }
+        ensures ok { OnOk result (entries self.new ≡ with_entry entry (entries self.old)) }
         ensures back { IfErr result (λ e. e ≡ entry) }
         ensures err { IfErr result (λ e. entries self.new ≡ entries self.old) };
 
@@ -57,7 +57,7 @@ pub trait PendingMap: Drop {
     /// How far a file must reach until a COMMIT up to `limit` is complete: the greatest end, up to the limit, of the
     /// entries that begin below it. It is 0 where none does.
     fn max_goal(&self, limit: u64) -> u64
-        ensures { result ≡ goal_of limit (entries self.now) };
+        ensures { result ≡ commit_goal limit (entries self.now) };
 
     /// How many entries there are.
     fn len(&self) -> usize

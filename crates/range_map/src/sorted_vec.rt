@@ -1,6 +1,6 @@
 // Pending writes in a sorted vector.
 ghost use Rattle.std.specs.Prelude.{◌≡◌, ◌≤◌, ◌++◌, ◌∷◌, true, length, take, drop, position, slice_get, IsSome};
-ghost use Rattle.range_map.specs.Entries.{entry_at, is_at, is_before, is_in_order, lies_in_memory, put_in};
+ghost use Rattle.range_map.specs.Entries.{entry_at, is_at, is_before, is_in_order, lies_in_memory, with_entry};
 
 use crate::{Entry, PendingMap, Place};
 use gw_model::Stable;
@@ -25,7 +25,7 @@ fn is_before(one: &Entry, other: &Entry) -> bool
 // How many of the entries are before one that is to be put among them.
 fn place_for(entry: &Entry, items: &[Entry]) -> usize
     ensures within { result ≤ length items.now }
-    ensures put { put_in entry.now items.now ≡ take result items.now ++ entry.now ∷ drop result items.now }
+    ensures put { with_entry entry.now items.now ≡ take result items.now ++ entry.now ∷ drop result items.now }
 {
     for (place, item) in items.iter().enumerate() {
         if !is_before(item, entry) {

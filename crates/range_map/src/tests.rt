@@ -1,5 +1,5 @@
 ghost use Rattle.std.specs.Prelude.{◌≡◌, OnOk, IsTrue, None};
-ghost use Rattle.range_map.specs.Entries.{is_new, put_in};
+ghost use Rattle.range_map.specs.Entries.{is_new, with_entry};
 
 use super::*;
 use bytes::Bytes;
@@ -28,7 +28,7 @@ fn entry(number: u32, offset: u64) -> Entry
 
 fn put<M: PendingMap>(map: &mut M, entry: Entry) -> Result<(), Fail>
     requires { IsTrue (is_new entry.number (M.entries map.old)) }
-    ensures { OnOk result (M.entries map.new ≡ put_in entry (M.entries map.old)) }
+    ensures { OnOk result (M.entries map.new ≡ with_entry entry (M.entries map.old)) }
 {
     match map.insert(entry) {
         Ok(()) => Ok(()),

@@ -1,4 +1,4 @@
-use Rattle.range_map.proofs.Order.{put_in-in_order, put_in-newest}
+use Rattle.range_map.proofs.SortedEntries.{put_in-in_order, put_in-newest}
 use Rattle.range_map.proofs.laws.order_laws.Goals as goal
 
 pub returns-clause-ordered : goal.returns-clause-ordered

@@ -1,6 +1,6 @@
 use Rattle.std.proofs.Common.{◌≡◌, true, false, sym, ◌∙◌}
 use Rattle.range_map.specs.Entries.{is_at}
-use Rattle.range_map.proofs.Order.{position-found, position-none}
+use Rattle.range_map.proofs.SortedEntries.{position-found, position-none}
 use Rattle.range_map.proofs.sorted_vec.place_of.Goals as goal
 
 pub unreachable-requires : goal.unreachable-requires

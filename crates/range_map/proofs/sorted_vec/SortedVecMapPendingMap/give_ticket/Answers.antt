@@ -2,7 +2,7 @@ use Rattle.std.proofs.Common.{rules, Some, refl}
 use Rattle.std.specs.Prelude.{IsSome}
 use Rattle.range_map.specs.declared.entry.Entry.{Entry}
 use Rattle.range_map.specs.Entries.{entry_at}
-use Rattle.range_map.proofs.Order.{set-found, set-in_order}
+use Rattle.range_map.proofs.SortedEntries.{set-found, set-in_order}
 use Rattle.range_map.proofs.sorted_vec.SortedVecMapPendingMap.give_ticket.Goals as goal
 
 pub invariant_of-self : goal.invariant_of-self

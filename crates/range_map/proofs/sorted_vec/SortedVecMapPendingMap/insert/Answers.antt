@@ -1,4 +1,4 @@
-use Rattle.range_map.proofs.Order.{inserted-in_order}
+use Rattle.range_map.proofs.SortedEntries.{inserted-in_order}
 use Rattle.range_map.proofs.sorted_vec.SortedVecMapPendingMap.insert.Goals as goal
 
 pub invariant_of-self : goal.invariant_of-self

@@ -2,7 +2,7 @@ use Rattle.std.proofs.Common.{rules, refl}
 use Rattle.std.specs.Prelude.{IsSome}
 use Rattle.range_map.specs.declared.entry.Entry.{Entry}
 use Rattle.range_map.specs.Entries.{entry_at, is_at}
-use Rattle.range_map.proofs.Order.{find-at, set-found, set-in_order}
+use Rattle.range_map.proofs.SortedEntries.{find-at, set-found, set-in_order}
 use Rattle.range_map.proofs.sorted_vec.SortedVecMapPendingMap.set_place.Goals as goal
 
 pub invariant_of-self : goal.invariant_of-self

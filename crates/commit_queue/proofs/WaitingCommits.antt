@@ -1,10 +1,11 @@
 -- The laws of taking one after another.
-use Rattle.std.proofs.Common.{◌≡◌, ℕ, zero, suc, ◌<◌, ◌≤◌, Bool, true, false, not, cond, List, [], ◌∷◌, None, Some, refl, sym, ap, arith, ◌+◌, nat_lt, length, get_or}
+use Rattle.std.proofs.Common.{◌≡◌, ℕ, zero, suc, ◌<◌, ◌≤◌, Bool, true, false, not, cond, List, [], ◌∷◌, None, Some, refl, sym, ap, arith, ◌+◌, ◌++◌, nat_lt, nat_le, min, length, drop, get_or}
 use Rattle.std.specs.Prelude.{find, filter, position}
 use Rattle.std.specs.List.{cons_option, position_or_len, remove}
 use Rattle.std.proofs.lemmas.Bool.{ltb-false}
+use Rattle.std.proofs.lemmas.Bool.Decides.{nat_tests}
 use Rattle.std.proofs.lemmas.List.Quantifiers.{position-Some}
-use Rattle.commit_queue.specs.Queue.{Commit, is_ready, without_ready}
+use Rattle.commit_queue.specs.Queue.{Commit, GoalsFrom, is_ready, without_ready}
 use Rattle.commit_queue.specs.Laws.{TakesInOrder, LeavesOthers, TakesNoneAtEnd}
 
 pub takes_in_order : TakesInOrder
@@ -72,3 +73,48 @@ none_taken reach cs is =
     go : (b : Bool) → nat_lt (position_or_len (is_ready reach) cs) (length cs) ≡ b → None ≡ cond b (Some (position_or_len (is_ready reach) cs)) None → length cs ≤ position_or_len (is_ready reach) cs
     go true below is = absurd (cc)
     go false below is = ltb-false (position_or_len (is_ready reach) cs) (length cs) below
+
+-- No goal is below the least.
+
+pub none_below : (reach least : ℕ) (cs : List Commit) → GoalsFrom least cs → reach < least → (find (is_ready reach) cs ≡ None) × (without_ready reach cs ≡ cs)
+none_below reach least cs from below = let none = go cs from in (none, (takes_none_at_end reach cs none).1)
+  where
+    go : (cs : List Commit) → GoalsFrom least cs → find (is_ready reach) cs ≡ None
+    go [] from = refl
+    go (c ∷ cs) from = let other : is_ready reach c ≡ false = lt_false c.goal reach (omega (arith, from.0)) in rw other (go cs from.1)
+      where
+        lt_false : (n m : ℕ) → m < n → nat_le n m ≡ false
+        lt_false n m lt = grind (arith, nat_tests)
+
+all_beyond : (reach : ℕ) (cs : List Commit) → find (is_ready reach) cs ≡ None → GoalsFrom (reach + 1) cs
+all_beyond reach [] none = tt
+all_beyond reach (c ∷ cs) none = beyond (is_ready reach c) refl none (all_beyond reach cs)
+  where
+    beyond : (b : Bool) → is_ready reach c ≡ b → cond b (Some c) (find (is_ready reach) cs) ≡ None → (find (is_ready reach) cs ≡ None → GoalsFrom (reach + 1) cs)
+        → (reach + 1 ≤ c.goal) × GoalsFrom (reach + 1) cs
+    beyond true is none rest = absurd (cc)
+    beyond false is none rest = (grind (arith, nat_tests), rest none)
+
+-- where no place is ready each goal is beyond reach
+pub from_none : (reach : ℕ) (cs : List Commit) → None ≡ position (is_ready reach) cs → GoalsFrom (reach + 1) cs
+from_none reach cs is = all_beyond reach cs (none_taken reach cs is).0
+
+pub from_less : (least less : ℕ) (cs : List Commit) → less ≤ least → GoalsFrom least cs → GoalsFrom less cs
+from_less least less [] le from = tt
+from_less least less (c ∷ cs) le from = (omega (arith, le, from.0), from_less least less cs le from.1)
+
+pub from-snoc : (least goal : ℕ) (cs : List Commit) (c : Commit) → GoalsFrom least cs → GoalsFrom (min least c.goal) (cs ++ c ∷ [])
+from-snoc least goal [] c from = (omega arith, tt)
+from-snoc least goal (d ∷ cs) c from = (omega (arith, from.0), from-snoc least goal cs c from.1)
+
+pub from-drop : (least : ℕ) (cs : List Commit) → GoalsFrom least cs → GoalsFrom least (drop 1 cs)
+from-drop least [] from = tt
+from-drop least (c ∷ cs) from = from.1
+
+pub from-remove : (least : ℕ) (cs : List Commit) (i : ℕ) → GoalsFrom least cs → GoalsFrom least (remove cs i)
+from-remove least [] zero from = tt
+from-remove least [] (suc i) from = tt
+from-remove least (c ∷ cs) zero from = from.1
+from-remove least (c ∷ cs) (suc i) from = (from.0, from-remove least cs i from.1)
+
+pub ruleset least_steps = (from-snoc, from-drop, from-remove)

@@ -6,8 +6,8 @@ use Rattle.std.proofs.lemmas.Bool.Decides.{nat_tests}
 use Rattle.std.proofs.lemmas.List.Folds.{find_at}
 use Rattle.std.proofs.lemmas.Option.{slice_get_within, get_or_from_slice_get, slice_get_past}
 use Rattle.range_map.specs.declared.entry.Entry.{Entry}
-use Rattle.range_map.specs.Entries.{is_before, is_in_order, is_new, put_in, is_at}
-use Rattle.range_map.specs.Laws.{put_behind}
+use Rattle.range_map.specs.Entries.{is_before, is_in_order, is_new, with_entry, is_at}
+use Rattle.range_map.specs.Laws.{with_newest}
 
 -- Tests.
 
@@ -41,22 +41,22 @@ before_all a b (x ∷ xs) p h =
     let q = and_true (is_before b x) (list_all (is_before b) xs) h in
     both_true _ _ (before-trans a b x p q.0) (before_all a b xs p q.1)
 
-all-put_in : (t : Entry → Bool) (e : Entry) (es : List Entry) → t e ≡ true → list_all t es ≡ true → list_all t (put_in e es) ≡ true
+all-put_in : (t : Entry → Bool) (e : Entry) (es : List Entry) → t e ≡ true → list_all t es ≡ true → list_all t (with_entry e es) ≡ true
 all-put_in t e [] p h = both_true _ _ p refl
 all-put_in t e (x ∷ xs) p h =
     let q = and_true (t x) (list_all t xs) h in
-    let go : (b : Bool) → is_before x e ≡ b → list_all t (put_in e (x ∷ xs)) ≡ true = elim [
+    let go : (b : Bool) → is_before x e ≡ b → list_all t (with_entry e (x ∷ xs)) ≡ true = elim [
       | true ↦ λ is. rw is (both_true _ _ q.0 (all-put_in t e xs p q.1))
       | false ↦ λ is. rw is (both_true _ _ p h)
     ] in
     go (is_before x e) refl
 
-pub put_in-in_order : (e : Entry) (es : List Entry) → is_in_order es ≡ true → is_new e.number es ≡ true → is_in_order (put_in e es) ≡ true
+pub put_in-in_order : (e : Entry) (es : List Entry) → is_in_order es ≡ true → is_new e.number es ≡ true → is_in_order (with_entry e es) ≡ true
 put_in-in_order e [] h new = refl
 put_in-in_order e (x ∷ xs) h new =
     let q = and_true (list_all (is_before x) xs) (is_in_order xs) h in
     let n = and_true (not (x.number == e.number)) (is_new e.number xs) new in
-    let go : (b : Bool) → is_before x e ≡ b → is_in_order (put_in e (x ∷ xs)) ≡ true = elim [
+    let go : (b : Bool) → is_before x e ≡ b → is_in_order (with_entry e (x ∷ xs)) ≡ true = elim [
       | true ↦ λ is. rw is (both_true _ _ (all-put_in (is_before x) e xs is q.0) (put_in-in_order e xs q.1 n.1))
       | false ↦ λ is.
           let first : is_before e x ≡ true = before_other x e n.0 is in
@@ -67,7 +67,7 @@ put_in-in_order e (x ∷ xs) h new =
 newest_first : (e x : Entry) → nat_lt x.number e.number ≡ true → is_before x e ≡ nat_le x.offset e.offset
 newest_first e x lt = grind (arith, nat_tests)
 
-pub put_in-newest : (e : Entry) (es : List Entry) → list_all (λ x. nat_lt x.number e.number) es ≡ true → put_in e es ≡ put_behind e es
+pub put_in-newest : (e : Entry) (es : List Entry) → list_all (λ x. nat_lt x.number e.number) es ≡ true → with_entry e es ≡ with_newest e es
 put_in-newest e [] h = refl
 put_in-newest e (x ∷ xs) h =
     let q = and_true (nat_lt x.number e.number) (list_all (λ y. nat_lt y.number e.number) xs) h in
@@ -75,7 +75,7 @@ put_in-newest e (x ∷ xs) h =
 
 -- after an insert that was done, or wasn't
 pub inserted-in_order : (done : Bool) (e : Entry) (es new : List Entry) (k : ℕ) → is_in_order es ≡ true → is_new e.number es ≡ true
-    → put_in e es ≡ take k es ++ e ∷ drop k es → new ≡ (if done then insert es k e else es) → is_in_order new ≡ true
+    → with_entry e es ≡ take k es ++ e ∷ drop k es → new ≡ (if done then insert es k e else es) → is_in_order new ≡ true
 inserted-in_order true e es new k h fresh put is = ap is_in_order (is ∙ sym put) ∙ put_in-in_order e es h fresh
 inserted-in_order false e es new k h fresh put is = ap is_in_order is ∙ h
 
