@@ -13,7 +13,8 @@ use Rattle.xdr.proofs.Texts.{spells_text}
 use Rattle.xdr.proofs.Taken.{bind_ok, bind_is, got, got_is, moved, takes_none, none_taken, takes_then, takes_parts}
 use Rattle.xdr.proofs.Exact.{exact_u32, exact_u64, flag_row, exact_bool, exact_opaque, both, remade, made_forth, made_back}
 use Rattle.nfs_types.proofs.Types.{exact_time, exact_attr}
-use Rattle.nfs_wire.specs.Arguments.{nfs_program, mount_program, handle_row, handle_at}
+use Rattle.nfs_wire.specs.Programs.{nfs_program, mount_program}
+use Rattle.nfs_wire.specs.Arguments.{handle_row, handle_at}
 use Rattle.xdr.specs.Lists.{list_row, list_at, behind_word, nothing_at, zeros_row, zeros_at}
 use Rattle.nfs_wire.specs.Results as results
 use Rattle.nfs_wire.specs.Results.{EntryText, EntryPlusText, MountText, Results, bytes_row, any_bytes_at, entry_row, entry_plus_row, mount_row, new_object_row, stat_row, info_row, conf_row, results_row, entry_of, entry_at, entry_plus_of, entry_plus_at, mount_of, mount_at, new_object_at, stat_of, stat_at, info_of, info_at, conf_of, conf_at, lookup_results, access_results, read_results, write_results, create_results, mkdir_results, symlink_results, readdir_results, readdirplus_results, mnt_results, export_results, zeros_only_at, ResultForm, with_status, without_status, never_at, nfs_forms, mount_forms, forms_of, by_status, by_count, form_at, find_at, results_at, zeros_in, procedure_of_results, Refuses, AnswerOf}

@@ -4,3 +4,4 @@ pub mod Places
 pub mod Answers
 pub mod Loops
 pub mod Heads
+pub mod Bounds

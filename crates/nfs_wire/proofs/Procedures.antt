@@ -20,7 +20,8 @@ use Rattle.nfs_wire.specs.declared.args.Args.TheVariants as args
 use Rattle.nfs_wire.specs.declared.args.DirOp.{DirOp}
 use Rattle.nfs_wire.specs.declared.args.CreateHow.{CreateHow}
 use Rattle.nfs_wire.specs.declared.args.NodeKind.{NodeKind}
-use Rattle.nfs_wire.specs.Arguments.{handle_row, handle_at, path_row, path_at, dir_op_row, dir_op_at, stable_row, stable_at, how_row, how_at, node_row, node_at, args_row, nfs_program, mount_program, procedure_of, setattr_arguments, setattr_at, access_arguments, access_at, read_arguments, read_at, write_arguments, data_at, write_at, create_arguments, create_at, mkdir_arguments, mkdir_at, symlink_arguments, symlink_at, mknod_arguments, mknod_at, rename_arguments, rename_at, link_arguments, link_arguments_at, readdir_arguments, readdir_at, readdirplus_arguments, readdirplus_at, commit_arguments, commit_at, nfs_arms, mount_arms, arms_of, args_of}
+use Rattle.nfs_wire.specs.Programs.{nfs_program, mount_program}
+use Rattle.nfs_wire.specs.Arguments.{handle_row, handle_at, path_row, path_at, dir_op_row, dir_op_at, stable_row, stable_at, how_row, how_at, node_row, node_at, args_row, procedure_of, setattr_arguments, setattr_at, access_arguments, access_at, read_arguments, read_at, write_arguments, data_at, write_at, create_arguments, create_at, mkdir_arguments, mkdir_at, symlink_arguments, symlink_at, mknod_arguments, mknod_at, rename_arguments, rename_at, link_arguments, link_arguments_at, readdir_arguments, readdir_at, readdirplus_arguments, readdirplus_at, commit_arguments, commit_at, nfs_arms, mount_arms, arms_of, args_of}
 use Rattle.nfs_wire.proofs.Parts.{exact_handle, exact_path, verifier_row, exact_verifier, exact_place, exact_stable, exact_how, exact_node}
 
 -- what this procedure reads is its own, and spelled so

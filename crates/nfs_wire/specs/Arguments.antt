@@ -10,6 +10,8 @@ use Rattle.nfs_types.specs.declared.attr.Device.{Device}
 use Rattle.xdr.specs.Rows.{Item, Word, Long, Fixed, Opaque, option_row}
 use Rattle.xdr.specs.Forms.{◌>>=◌, ◌&◌, map_at, constant_at, option_at, arm_at, union_at}
 use Rattle.nfs_types.specs.Types.{time_row, time_at, set_row, set_at, device_row, device_at}
+use Rattle.nfs_wire.specs.Programs.{nfs_program, mount_program}
+use Rattle.nfs_wire.specs.Bounds.{longest_handle, longest_name, longest_path, most_data}
 use Rattle.nfs_wire.specs.declared.args.Args.{Args}
 use Rattle.nfs_wire.specs.declared.args.Args.TheVariants as args
 use Rattle.nfs_wire.specs.declared.args.DirOp.{DirOp}
@@ -20,25 +22,25 @@ use Rattle.nfs_wire.specs.declared.args.NodeKind.TheVariants.{Regular, Directory
 
 -- a handle, a name, a path
 abbrev pub handle_item : List ℕ → Item
-handle_item v = Opaque 64 v
+handle_item v = Opaque longest_handle v
 
 abbrev pub handle_row : List ℕ → List Item
 handle_row v = handle_item v ∷ []
 
 abbrev pub handle_at : Cursor → Reading (List ℕ)
-handle_at = opaque_at 64
+handle_at = opaque_at longest_handle
 
 abbrev pub name_row : List ℕ → List Item
-name_row v = Opaque 4096 v ∷ []
+name_row v = Opaque longest_name v ∷ []
 
 abbrev pub name_at : Cursor → Reading (List ℕ)
-name_at = opaque_at 4096
+name_at = opaque_at longest_name
 
 abbrev pub path_row : List ℕ → List Item
-path_row v = Opaque 1024 v ∷ []
+path_row v = Opaque longest_path v ∷ []
 
 abbrev pub path_at : Cursor → Reading (List ℕ)
-path_at = opaque_at 1024
+path_at = opaque_at longest_path
 
 -- diropargs3: a directory's handle and a name
 abbrev pub dir_op_row : DirOp → List Item
@@ -109,7 +111,7 @@ args_row (args.Lookup place) = dir_op_row place
 args_row (args.Access handle mask) = handle_item handle ∷ Word mask ∷ []
 args_row (args.Readlink handle) = handle_row handle
 args_row (args.Read handle offset count) = handle_item handle ∷ Long offset ∷ Word count ∷ []
-args_row (args.Write handle offset count level bytes) = handle_item handle ∷ Long offset ∷ Word count ∷ Word (stable_number level) ∷ Opaque 1048576 bytes ∷ []
+args_row (args.Write handle offset count level bytes) = handle_item handle ∷ Long offset ∷ Word count ∷ Word (stable_number level) ∷ Opaque most_data bytes ∷ []
 args_row (args.Create place how) = dir_op_row place ++ how_row how
 args_row (args.Mkdir place set) = dir_op_row place ++ set_row set
 args_row (args.Symlink place set path) = dir_op_row place ++ (set_row set ++ path_row path)
@@ -133,12 +135,6 @@ args_row args.Umntall = []
 args_row args.Export = []
 
 -- the program and the procedure that have these arguments
-abbrev pub nfs_program : ℕ
-nfs_program = 100003
-
-abbrev pub mount_program : ℕ
-mount_program = 100005
-
 abbrev pub procedure_of : Args → ℕ × ℕ
 procedure_of args.Null = (nfs_program, 0)
 procedure_of (args.Getattr _) = (nfs_program, 1)
@@ -193,7 +189,7 @@ abbrev pub write_arguments : List ℕ × (ℕ × (ℕ × (Stable × List ℕ))) 
 write_arguments p = args.Write p.0 p.1.0 p.1.1.0 p.1.1.1.0 p.1.1.1.1
 
 abbrev pub data_at : Cursor → Reading (List ℕ)
-data_at = opaque_at 1048576
+data_at = opaque_at most_data
 
 unfoldable pub write_at : Cursor → Reading Args
 write_at = map_at write_arguments (handle_at & u64_at & u32_at & stable_at & data_at)

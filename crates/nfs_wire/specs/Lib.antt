@@ -1,5 +1,7 @@
 pub mod Faults
 pub mod Places
+pub mod Programs
+pub mod Bounds
 pub mod Arguments
 pub mod Results
 pub mod Views

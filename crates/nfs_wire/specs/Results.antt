@@ -12,7 +12,8 @@ use Rattle.nfs_types.specs.Types.{time_row, time_at, attr_row, attr_at}
 use Rattle.nfs_wire.specs.declared.res.FsStat.{FsStat}
 use Rattle.nfs_wire.specs.declared.res.FsInfo.{FsInfo}
 use Rattle.nfs_wire.specs.declared.res.PathConf.{PathConf}
-use Rattle.nfs_wire.specs.Arguments.{nfs_program, mount_program, handle_item, handle_at}
+use Rattle.nfs_wire.specs.Programs.{nfs_program, mount_program}
+use Rattle.nfs_wire.specs.Arguments.{handle_item, handle_at}
 use Rattle.xdr.specs.Lists.{list_row, list_at, behind_word, nothing_at, zeros_row, zeros_at}
 
 -- an entry of a directory

@@ -38,8 +38,8 @@ pub enum Args {
         /// How many bytes the data is said to have.
         count: u32,
         stable: Stable,
-        /// The data, a slice of the message.
-        bytes: Bytes,
+        /// A slice of the message.
+        data: Bytes,
     },
     Create {
         place: DirOp,

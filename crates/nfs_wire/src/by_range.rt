@@ -32,13 +32,13 @@ pub fn write(items: &mut Items<'_>, message: &Bytes) -> Result<Args, ArgsFault>
     let offset = items.long()?;
     let count = items.word()?;
     let stable = items.stable()?;
-    let bytes = items.slice(message)?;
+    let data = items.slice(message)?;
     Ok(Args::Write {
         handle,
         offset,
         count,
         stable,
-        bytes,
+        data,
     })
 }
 

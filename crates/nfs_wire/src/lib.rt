@@ -12,6 +12,7 @@ mod items;
 mod laws;
 mod listing;
 mod making;
+pub mod program;
 mod put_attr;
 mod put_list;
 mod put_system;

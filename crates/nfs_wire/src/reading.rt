@@ -1,8 +1,9 @@
 // The bytes behind a call's head as the arguments of its procedure.
-ghost use Rattle.std.specs.Prelude.{◌≡◌};
+ghost use Rattle.std.specs.Prelude.{◌≡◌, IfOk};
 ghost use Rattle.xdr.specs.Reading.{start};
 ghost use Rattle.xdr.specs.Forms.{arm_at};
 ghost use Rattle.nfs_wire.specs.Faults.{Gives};
+ghost use Rattle.nfs_wire.specs.Bounds.{IsWithin};
 ghost use Rattle.nfs_wire.specs.Arguments.{nfs_arms, mount_arms, args_of};
 
 use crate::by_handle::{access, fsinfo, fsstat, getattr, pathconf, readlink, setattr};
@@ -11,19 +12,23 @@ use crate::by_range::{commit, read, write};
 use crate::items::Items;
 use crate::listing::{readdir, readdirplus};
 use crate::making::{create, mkdir, mknod, symlink};
+use crate::program::{MOUNT_PROGRAM, NFS_PROGRAM};
 use crate::{Args, ArgsFault};
 use bytes::Bytes;
 use std::alloc::Global;
 
-const NFS_PROGRAM: u32 = 100_003;
-
-const MOUNT_PROGRAM: u32 = 100_005;
-
 /// Reads the arguments of a procedure of NFS or MOUNT, both of version 3: all of the bytes. `Garbage` comes exactly where
 /// they don't spell them, also for a program or a procedure that isn't known, unless memory is wanting. The data of a
 /// WRITE is a slice of `args`.
-#[tactic(auto, unfolding(crate::specs::Arguments::args_of))]
 pub fn read_args(alloc: Global, prog: u32, proc_no: u32, args: Bytes) -> Result<Args, ArgsFault>
+    ensures exact { Gives (λ a. a) result (args_of prog proc_no args) }
+    ensures within { IfOk result IsWithin }
+{
+    read_whole(alloc, prog, proc_no, args)
+}
+
+#[tactic(auto, unfolding(crate::specs::Arguments::args_of))]
+fn read_whole(alloc: Global, prog: u32, proc_no: u32, args: Bytes) -> Result<Args, ArgsFault>
     ensures { Gives (λ a. a) result (args_of prog proc_no args) }
 {
     let mut items = Items::new(alloc, args.as_slice());

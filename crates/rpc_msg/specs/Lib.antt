@@ -2,3 +2,4 @@ pub mod Calls
 pub mod Views
 pub mod Replies
 pub mod Spellings
+pub mod Numbers

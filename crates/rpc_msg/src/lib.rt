@@ -4,6 +4,7 @@
 mod call;
 mod fault;
 mod laws;
+pub mod numbers;
 mod parts;
 mod reading;
 mod replies;

@@ -5,6 +5,7 @@ ghost use Rattle.rpc_msg.specs.Calls.{call_word_at, call_opaque_at, call_body_at
 ghost use Rattle.rpc_msg.specs.Views.{parts_view};
 
 use crate::CallFault;
+use crate::numbers::RPC_VERSION;
 use crate::sender::{Sender, read_sender};
 use xdr::{Reader, XdrFault};
 
@@ -20,8 +21,6 @@ pub struct Parts<'a> {
 }
 
 const CALL: u32 = 0;
-
-const RPC_VERSION: u32 = 2;
 
 const LONGEST_AUTH: u32 = 400;
 

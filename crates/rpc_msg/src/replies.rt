@@ -1,9 +1,11 @@
 // The fronts of replies. None takes memory.
 ghost use Rattle.std.specs.Prelude.{◌≡◌};
-ghost use Rattle.rpc_msg.specs.Replies.{accepted_text, mismatch_text, denial_text};
+ghost use Rattle.rpc_msg.specs.Numbers.{system_error};
+ghost use Rattle.rpc_msg.specs.Replies.{accepted_text, rpc_mismatch_text, denial_text};
 
-/// The front of an accepted reply; its results follow. Statuses (RFC 5531 section 9): SUCCESS 0,
-/// PROG_UNAVAIL 1, PROG_MISMATCH 2, PROC_UNAVAIL 3, GARBAGE_ARGS 4, SYSTEM_ERR 5.
+use crate::numbers::SYSTEM_ERR;
+
+/// The front of an accepted reply, whose status is an `accept_stat` of `numbers`; its results follow.
 #[tactic(auto, unfolding(crate::specs::Replies::accepted_text, xdr::specs::Items::word))]
 pub fn accepted_head(xid: u32, stat: u32) -> [u8; 24]
     ensures { result ≡ accepted_text xid stat }
@@ -17,9 +19,9 @@ pub fn accepted_head(xid: u32, stat: u32) -> [u8; 24]
 }
 
 /// The reply to a call of another version of the protocol than 2.
-#[tactic(auto, unfolding(crate::specs::Replies::mismatch_text, xdr::specs::Items::word))]
+#[tactic(auto, unfolding(crate::specs::Replies::rpc_mismatch_text, xdr::specs::Items::word))]
 pub fn rpc_mismatch(xid: u32) -> [u8; 24]
-    ensures { result ≡ mismatch_text xid }
+    ensures { result ≡ rpc_mismatch_text xid }
 {
     let x = xid.to_be_bytes();
     [
@@ -27,7 +29,7 @@ pub fn rpc_mismatch(xid: u32) -> [u8; 24]
     ]
 }
 
-/// The reply to a credential that isn't taken: AUTH_BADCRED 1 or AUTH_REJECTEDCRED 2.
+/// The reply to a credential that isn't taken, with an `auth_stat` of `numbers`.
 #[tactic(auto, unfolding(crate::specs::Replies::denial_text, xdr::specs::Items::word))]
 pub fn auth_error(xid: u32, stat: u32) -> [u8; 20]
     ensures { result ≡ denial_text xid stat }
@@ -41,7 +43,7 @@ pub fn auth_error(xid: u32, stat: u32) -> [u8; 20]
 
 /// The reply where memory was wanting.
 pub fn system_err(xid: u32) -> [u8; 24]
-    ensures { result ≡ accepted_text xid 5 }
+    ensures { result ≡ accepted_text xid system_error }
 {
-    accepted_head(xid, 5)
+    accepted_head(xid, SYSTEM_ERR)
 }

@@ -2,7 +2,7 @@
 use Rattle.std.proofs.Common.{◌≡◌, ℕ, List, [], ◌∷◌, ◌++◌, refl, sym, ap, ◌∙◌, append_assoc, append-nil}
 use Rattle.xdr.proofs.Numbers.{word_spells, long_spells}
 use Rattle.xdr.proofs.Opaques.{fixed_spells, opaque_spells}
-use Rattle.xdr.specs.Rows.{Item, Word, Long, Fixed, Opaque, SpellsItem, Spells, item_text, joined_text, text, Fits, AllFit}
+use Rattle.xdr.specs.Rows.{Item, Word, Long, Fixed, Opaque, SpellsItem, Spells, item_text, joined_text, text, Fits, AllFit, IsBounded, AllBounded}
 
 pub written-text : (done : List ℕ) (row : List Item) → joined_text done row ≡ done ++ text row
 written-text done [] = sym (append-nil done)
@@ -29,3 +29,18 @@ spells_item (Opaque most v) fits = (fits.0, opaque_spells v fits.1)
 pub spells_text : (row : List Item) → AllFit row → Spells (text row) row
 spells_text [] fits = refl
 spells_text (item ∷ row) fits = (item_text item, text row, text-cons item row, spells_item item fits.0, spells_text row fits.1)
+
+-- Bytes spell only a row whose items are bounded.
+item_bounded : (bytes : List ℕ) (item : Item) → SpellsItem bytes item → IsBounded item
+item_bounded bytes (Word n) s = tt
+item_bounded bytes (Long n) s = tt
+item_bounded bytes (Fixed len v) s = s.0
+item_bounded bytes (Opaque most v) s = s.0
+
+pub spells_bounded : (bytes : List ℕ) (row : List Item) → Spells bytes row → AllBounded row
+spells_bounded bytes [] s = tt
+spells_bounded bytes (item ∷ row) s = (item_bounded s.0 item s.3, spells_bounded s.1 row s.4)
+
+pub bounded_rest : (xs ys : List Item) → AllBounded (xs ++ ys) → AllBounded ys
+bounded_rest [] ys b = b
+bounded_rest (item ∷ xs) ys b = bounded_rest xs ys b.1

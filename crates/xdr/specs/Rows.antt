@@ -49,6 +49,17 @@ abbrev pub AllFit : List Item → Type 0
 AllFit [] = Unit {0}
 AllFit (item ∷ row) = Fits item × AllFit row
 
+-- an item whose bytes are no more than its reader takes
+abbrev pub IsBounded : Item → Type 0
+IsBounded (Word n) = Unit {0}
+IsBounded (Long n) = Unit {0}
+IsBounded (Fixed len v) = length v ≡ len
+IsBounded (Opaque most v) = length v ≤ most
+
+abbrev pub AllBounded : List Item → Type 0
+AllBounded [] = Unit {0}
+AllBounded (item ∷ row) = IsBounded item × AllBounded row
+
 -- rows of one item
 abbrev pub word_row : ℕ → List Item
 word_row n = Word n ∷ []

@@ -143,13 +143,13 @@ fn write(rt: HostRuntime) -> Result<(), Fail> {
             offset,
             count,
             stable,
-            bytes,
+            data,
         } => {
             assert!(rt; is_hand(handle));
             assert_eq!(rt; *offset, 7);
             assert_eq!(rt; *count, 5);
             assert_eq!(rt; *stable, Stable::FileSync);
-            assert_eq!(rt; bytes.as_slice(), b"abcde".as_slice());
+            assert_eq!(rt; data.as_slice(), b"abcde".as_slice());
         }
         _ => assert!(rt; false),
     }
