@@ -17,7 +17,7 @@ use Rattle.nfs_wire.specs.Programs.{nfs_program, mount_program}
 use Rattle.nfs_wire.specs.Arguments.{handle_row, handle_at}
 use Rattle.xdr.specs.Lists.{list_row, list_at, behind_word, nothing_at, zeros_row, zeros_at}
 use Rattle.nfs_wire.specs.Results as results
-use Rattle.nfs_wire.specs.Results.{EntryText, EntryPlusText, MountText, Results, bytes_row, any_bytes_at, entry_row, entry_plus_row, mount_row, new_object_row, stat_row, info_row, conf_row, results_row, entry_of, entry_at, entry_plus_of, entry_plus_at, mount_of, mount_at, new_object_at, stat_of, stat_at, info_of, info_at, conf_of, conf_at, lookup_results, access_results, read_results, write_results, create_results, mkdir_results, symlink_results, readdir_results, readdirplus_results, mnt_results, export_results, zeros_only_at, ResultForm, with_status, without_status, never_at, nfs_forms, mount_forms, forms_of, by_status, by_count, form_at, find_at, results_at, zeros_in, procedure_of_results, Refuses, AnswerOf}
+use Rattle.nfs_wire.specs.Results.{EntryText, EntryPlusText, MountText, Results, bytes_row, any_bytes_at, dir_entry_row, entry_plus_row, mount_row, new_object_row, stat_row, info_row, conf_row, results_row, dir_entry_of, dir_entry_at, entry_plus_of, entry_plus_at, mount_of, mount_at, new_object_at, stat_of, stat_at, info_of, info_at, conf_of, conf_at, lookup_results, access_results, read_results, write_results, create_results, mkdir_results, symlink_results, readdir_results, readdirplus_results, mnt_results, export_results, zeros_only_at, ResultForm, with_status, without_status, never_at, nfs_forms, mount_forms, forms_of, by_status, by_count, form_at, find_at, results_at, zeros_in, procedure_of_results, Refuses, AnswerOf}
 use Rattle.nfs_wire.proofs.Parts.{exact_handle, verifier_row, exact_verifier}
 use Rattle.xdr.proofs.Lists.{exact_after, exact_nothing, exact_zeros, exact_list}
 
@@ -29,9 +29,9 @@ none_row u = []
 exact_bytes : IsExact any_bytes_at bytes_row
 exact_bytes = exact_opaque 4294967295
 
-exact_listed : IsExact entry_at entry_row
+exact_listed : IsExact dir_entry_at dir_entry_row
 exact_listed =
-    remade entry_of (λ e. (e.file, (e.name, e.cookie))) (u64_at & any_bytes_at & u64_at) (λ t. long_row t.0 ++ (bytes_row t.1.0 ++ long_row t.1.1)) entry_row
+    remade dir_entry_of (λ e. (e.file, (e.name, e.cookie))) (u64_at & any_bytes_at & u64_at) (λ t. long_row t.0 ++ (bytes_row t.1.0 ++ long_row t.1.1)) dir_entry_row
     (both u64_at _ long_row _ exact_u64 (both any_bytes_at u64_at bytes_row long_row exact_bytes exact_u64))
     (λ e. refl) (λ t. refl)
 
@@ -46,8 +46,8 @@ exact_plus_behind = exact_after 1 (attr_at & behind_word 1 handle_at) (λ t. att
 
 exact_plus : IsExact entry_plus_at entry_plus_row
 exact_plus =
-    remade entry_plus_of (λ p. (p.entry, (p.attr, p.handle))) (entry_at & behind_word 1 (attr_at & behind_word 1 handle_at)) (λ t. entry_row t.0 ++ plus_behind t.1) entry_plus_row
-    (both entry_at (behind_word 1 (attr_at & behind_word 1 handle_at)) entry_row plus_behind exact_listed exact_plus_behind)
+    remade entry_plus_of (λ p. (p.entry, (p.attr, p.handle))) (dir_entry_at & behind_word 1 (attr_at & behind_word 1 handle_at)) (λ t. dir_entry_row t.0 ++ plus_behind t.1) entry_plus_row
+    (both dir_entry_at (behind_word 1 (attr_at & behind_word 1 handle_at)) dir_entry_row plus_behind exact_listed exact_plus_behind)
     (λ p. refl) (λ t. refl)
 
 exact_mounted : IsExact mount_at mount_row
@@ -214,7 +214,7 @@ nfs_made k zeros make r p f a h z = replied nfs_program k zeros (map_at make r) 
 nfs_all : AreAnswers nfs_program nfs_forms
 unfolding nfs_forms
 nfs_all =
-    (told_nothing nfs_program 0 results.Null refl refl, (nfs_made 1 0 results.Getattr attr_at attr_row exact_attr (λ x. refl) (λ x. refl) refl, (nfs_done 2 results.Setattr 2 refl refl refl, (nfs_made 3 1 lookup_results _ (handle_attr 1) (exact_handle_attr 1) (λ x. refl) (λ x. refl) refl, (nfs_made 4 1 access_results _ access_parts exact_access (λ x. refl) (λ x. refl) refl, (nfs_made 5 1 results.Readlink _ path_parts exact_path (λ x. refl) (λ x. refl) refl, (nfs_made 6 1 read_results _ read_parts exact_read (λ x. refl) (λ x. refl) refl, (nfs_made 7 2 write_results _ write_parts exact_write (λ x. refl) (λ x. refl) refl, (nfs_made 8 2 create_results new_object_at made_parts exact_made (λ x. refl) (λ x. refl) refl, (nfs_made 9 2 mkdir_results new_object_at made_parts exact_made (λ x. refl) (λ x. refl) refl, (nfs_made 10 2 symlink_results new_object_at made_parts exact_made (λ x. refl) (λ x. refl) refl, (replied nfs_program 11 2 never_at (done_never nfs_program 11) refl, (nfs_done 12 results.Remove 2 refl refl refl, (nfs_done 13 results.Rmdir 2 refl refl refl, (nfs_done 14 results.Rename 4 refl refl refl, (replied nfs_program 15 3 never_at (done_never nfs_program 15) refl, (nfs_made 16 1 readdir_results _ (listing_parts entry_row) (exact_listing entry_at entry_row exact_listed) (λ x. refl) (λ x. refl) refl, (nfs_made 17 1 readdirplus_results _ (listing_parts entry_plus_row) (exact_listing entry_plus_at entry_plus_row exact_plus) (λ x. refl) (λ x. refl) refl, (nfs_made 18 1 results.Fsstat _ (λ x. Word 0 ∷ stat_row x) (exact_after 0 stat_at stat_row exact_stat) (λ x. refl) (λ x. refl) refl, (nfs_made 19 1 results.Fsinfo _ (λ x. Word 0 ∷ info_row x) (exact_after 0 info_at info_row exact_info) (λ x. refl) (λ x. refl) refl, (nfs_made 20 1 results.Pathconf _ (λ x. Word 0 ∷ conf_row x) (exact_after 0 conf_at conf_row exact_conf) (λ x. refl) (λ x. refl) refl, (nfs_made 21 2 results.Commit _ commit_parts exact_commit (λ x. refl) (λ x. refl) refl, tt))))))))))))))))))))))
+    (told_nothing nfs_program 0 results.Null refl refl, (nfs_made 1 0 results.Getattr attr_at attr_row exact_attr (λ x. refl) (λ x. refl) refl, (nfs_done 2 results.Setattr 2 refl refl refl, (nfs_made 3 1 lookup_results _ (handle_attr 1) (exact_handle_attr 1) (λ x. refl) (λ x. refl) refl, (nfs_made 4 1 access_results _ access_parts exact_access (λ x. refl) (λ x. refl) refl, (nfs_made 5 1 results.Readlink _ path_parts exact_path (λ x. refl) (λ x. refl) refl, (nfs_made 6 1 read_results _ read_parts exact_read (λ x. refl) (λ x. refl) refl, (nfs_made 7 2 write_results _ write_parts exact_write (λ x. refl) (λ x. refl) refl, (nfs_made 8 2 create_results new_object_at made_parts exact_made (λ x. refl) (λ x. refl) refl, (nfs_made 9 2 mkdir_results new_object_at made_parts exact_made (λ x. refl) (λ x. refl) refl, (nfs_made 10 2 symlink_results new_object_at made_parts exact_made (λ x. refl) (λ x. refl) refl, (replied nfs_program 11 2 never_at (done_never nfs_program 11) refl, (nfs_done 12 results.Remove 2 refl refl refl, (nfs_done 13 results.Rmdir 2 refl refl refl, (nfs_done 14 results.Rename 4 refl refl refl, (replied nfs_program 15 3 never_at (done_never nfs_program 15) refl, (nfs_made 16 1 readdir_results _ (listing_parts dir_entry_row) (exact_listing dir_entry_at dir_entry_row exact_listed) (λ x. refl) (λ x. refl) refl, (nfs_made 17 1 readdirplus_results _ (listing_parts entry_plus_row) (exact_listing entry_plus_at entry_plus_row exact_plus) (λ x. refl) (λ x. refl) refl, (nfs_made 18 1 results.Fsstat _ (λ x. Word 0 ∷ stat_row x) (exact_after 0 stat_at stat_row exact_stat) (λ x. refl) (λ x. refl) refl, (nfs_made 19 1 results.Fsinfo _ (λ x. Word 0 ∷ info_row x) (exact_after 0 info_at info_row exact_info) (λ x. refl) (λ x. refl) refl, (nfs_made 20 1 results.Pathconf _ (λ x. Word 0 ∷ conf_row x) (exact_after 0 conf_at conf_row exact_conf) (λ x. refl) (λ x. refl) refl, (nfs_made 21 2 results.Commit _ commit_parts exact_commit (λ x. refl) (λ x. refl) refl, tt))))))))))))))))))))))
 
 mount_all : AreAnswers mount_program mount_forms
 unfolding mount_forms
@@ -274,7 +274,7 @@ own (results.Symlink h a) = reads_done 2 symlink_results new_object_at made_part
 own results.Remove = reads_only results.Remove 2 2 refl
 own results.Rmdir = reads_only results.Rmdir 2 2 refl
 own results.Rename = reads_only results.Rename 4 4 refl
-own (results.Readdir v es e) = reads_done 1 readdir_results _ (listing_parts entry_row) (exact_listing entry_at entry_row exact_listed) (v, (es, e)) refl
+own (results.Readdir v es e) = reads_done 1 readdir_results _ (listing_parts dir_entry_row) (exact_listing dir_entry_at dir_entry_row exact_listed) (v, (es, e)) refl
 own (results.Readdirplus v es e) = reads_done 1 readdirplus_results _ (listing_parts entry_plus_row) (exact_listing entry_plus_at entry_plus_row exact_plus) (v, (es, e)) refl
 own (results.Fsstat s) = reads_done 1 results.Fsstat _ (λ x. Word 0 ∷ stat_row x) (exact_after 0 stat_at stat_row exact_stat) s refl
 own (results.Fsinfo i) = reads_done 1 results.Fsinfo _ (λ x. Word 0 ∷ info_row x) (exact_after 0 info_at info_row exact_info) i refl

@@ -80,11 +80,11 @@ flag_item b = Word (flag b)
 
 -- the parts of the rows
 
-abbrev pub entry_row : EntryText → List Item
-entry_row e = Long e.file ∷ bytes_item e.name ∷ Long e.cookie ∷ []
+abbrev pub dir_entry_row : EntryText → List Item
+dir_entry_row e = Long e.file ∷ bytes_item e.name ∷ Long e.cookie ∷ []
 
 abbrev pub entry_plus_row : EntryPlusText → List Item
-entry_plus_row p = entry_row p.entry ++ (Word 1 ∷ (attr_row p.attr ++ (Word 1 ∷ handle_item p.handle ∷ [])))
+entry_plus_row p = dir_entry_row p.entry ++ (Word 1 ∷ (attr_row p.attr ++ (Word 1 ∷ handle_item p.handle ∷ [])))
 
 abbrev pub mount_row : MountText → List Item
 mount_row m = bytes_item m.host ∷ bytes_item m.path ∷ []
@@ -128,7 +128,7 @@ results_row (Symlink handle attr) = Word 0 ∷ new_object_row handle attr
 results_row Remove = Word 0 ∷ Word 0 ∷ Word 0 ∷ []
 results_row Rmdir = Word 0 ∷ Word 0 ∷ Word 0 ∷ []
 results_row Rename = Word 0 ∷ Word 0 ∷ Word 0 ∷ Word 0 ∷ Word 0 ∷ []
-results_row (Readdir verifier entries eof) = Word 0 ∷ Word 0 ∷ Fixed 8 verifier ∷ (list_row entry_row entries ++ (flag_item eof ∷ []))
+results_row (Readdir verifier entries eof) = Word 0 ∷ Word 0 ∷ Fixed 8 verifier ∷ (list_row dir_entry_row entries ++ (flag_item eof ∷ []))
 results_row (Readdirplus verifier entries eof) = Word 0 ∷ Word 0 ∷ Fixed 8 verifier ∷ (list_row entry_plus_row entries ++ (flag_item eof ∷ []))
 results_row (Fsstat stat) = Word 0 ∷ Word 0 ∷ stat_row stat
 results_row (Fsinfo info) = Word 0 ∷ Word 0 ∷ info_row info
@@ -145,17 +145,17 @@ results_row (Refused status zeros) = Word status ∷ zeros_row zeros
 
 -- how the parts are read
 
-abbrev pub entry_of : ℕ × (List ℕ × ℕ) → EntryText
-entry_of p = record { file = p.0; name = p.1.0; cookie = p.1.1 }
+abbrev pub dir_entry_of : ℕ × (List ℕ × ℕ) → EntryText
+dir_entry_of p = record { file = p.0; name = p.1.0; cookie = p.1.1 }
 
-abbrev pub entry_at : Cursor → Reading EntryText
-entry_at = map_at entry_of (u64_at & any_bytes_at & u64_at)
+abbrev pub dir_entry_at : Cursor → Reading EntryText
+dir_entry_at = map_at dir_entry_of (u64_at & any_bytes_at & u64_at)
 
 abbrev pub entry_plus_of : EntryText × (Attr × List ℕ) → EntryPlusText
 entry_plus_of p = record { entry = p.0; attr = p.1.0; handle = p.1.1 }
 
 abbrev pub entry_plus_at : Cursor → Reading EntryPlusText
-entry_plus_at = map_at entry_plus_of (entry_at & behind_word 1 (attr_at & behind_word 1 handle_at))
+entry_plus_at = map_at entry_plus_of (dir_entry_at & behind_word 1 (attr_at & behind_word 1 handle_at))
 
 abbrev pub mount_of : List ℕ × List ℕ → MountText
 mount_of p = record { host = p.0; path = p.1 }
@@ -268,7 +268,7 @@ nfs_forms =
     ∷ (13, with_status (zeros_only_at Rmdir 2) 2)
     ∷ (14, with_status (zeros_only_at Rename 4) 4)
     ∷ (15, with_status never_at 3)
-    ∷ (16, with_status (map_at readdir_results (behind_word 0 (fixed_at 8 & list_at entry_at & bool_at))) 1)
+    ∷ (16, with_status (map_at readdir_results (behind_word 0 (fixed_at 8 & list_at dir_entry_at & bool_at))) 1)
     ∷ (17, with_status (map_at readdirplus_results (behind_word 0 (fixed_at 8 & list_at entry_plus_at & bool_at))) 1)
     ∷ (18, with_status (map_at Fsstat (behind_word 0 stat_at)) 1)
     ∷ (19, with_status (map_at Fsinfo (behind_word 0 info_at)) 1)

@@ -3,7 +3,7 @@ ghost use Rattle.std.specs.Prelude.{◌≡◌, map, OnOk};
 ghost use Rattle.std.specs.List.{AllByRecursion};
 ghost use Rattle.xdr.specs.Rows.{joined_text};
 ghost use Rattle.xdr.specs.Lists.{list_row};
-ghost use Rattle.nfs_wire.specs.Results.{Readdir, Readdirplus, Mnt, Dump, Export, entry_row, entry_plus_row, mount_row, results_row};
+ghost use Rattle.nfs_wire.specs.Results.{Readdir, Readdirplus, Mnt, Dump, Export, dir_entry_row, entry_plus_row, mount_row, results_row};
 ghost use Rattle.nfs_wire.specs.Short.{IsShort, HasShortName, HasShortNamePlus, IsShortMount};
 ghost use Rattle.nfs_wire.specs.Views.{entry_view, entry_plus_view, mount_view};
 
@@ -46,7 +46,7 @@ pub fn put_readdirplus(
 
 #[tactic(auto, unfolding(xdr::specs::Items::bool_text))]
 fn put_entries(writer: &mut Writer, entries: &[Entry<'_>]) -> Result<(), NoMemory>
-    ensures ok { OnOk result (writer.new ≡ joined_text writer.old (list_row entry_row (map entry_view entries.now))) }
+    ensures ok { OnOk result (writer.new ≡ joined_text writer.old (list_row dir_entry_row (map entry_view entries.now))) }
     ensures short { OnOk result (AllByRecursion HasShortName (map entry_view entries.now)) }
 {
     for entry in entries {
@@ -57,7 +57,7 @@ fn put_entries(writer: &mut Writer, entries: &[Entry<'_>]) -> Result<(), NoMemor
 }
 
 fn put_entry(writer: &mut Writer, entry: &Entry<'_>) -> Result<(), NoMemory>
-    ensures ok { OnOk result (writer.new ≡ joined_text writer.old (entry_row (entry_view entry.now))) }
+    ensures ok { OnOk result (writer.new ≡ joined_text writer.old (dir_entry_row (entry_view entry.now))) }
     ensures short { OnOk result (IsShort entry.now.name.now) }
 {
     writer.put_u64(entry.file)?;
