@@ -4,12 +4,13 @@ use Rattle.std.specs.Prelude.{◌-◌, ◌/◌, ◌^◌, min, ◌&&◌, ◌||◌
 use Rattle.std.specs.List.{filter}
 use Rattle.std.proofs.lemmas.Bool.Decides.{leb_tells}
 use Rattle.std.proofs.lemmas.Grind.{flat_map-append}
+use Rattle.gw_model.specs.Bounds.{max_waiting}
 use Rattle.gw_model.specs.declared.limits.Limits.{Limits}
 use Rattle.gw_model.specs.Order.{Accepted, Piece, pieces, joined_bytes, reach}
 use Rattle.gw_model.specs.Ahead.{Outcomes, CallResult, Good, Bad, next_call, is_refused}
 use Rattle.gw_model.specs.File.{Task, Put, Compare, Fetch, Settle, Job, Waiting, File, Side, Failure, Phase, Live, Stale, Append, Spill, Cause, side_of, reach_of, is_stale, is_fetch, ready_weight, memory_weight}
 use Rattle.gw_model.specs.Admission.{JobLists, with_lists, with_held, sent_lists, with_ready_sent, with_use, with_jobs, job, put_of, new_puts, settle_of, settles_at, with_accepted, same_range, WriteRequest, CommitRequest, ReadRequest, WriteJudgement, Barred, Busy, Compared, Again, Taken, new_write_judgement, write_judgement, Repeat, Differs, Unanswered, Answered, Takes, repeat_of, writes_with_ticket, repeat_step_by, repeat_step_if, repeat_step_read, repeat_step_at, write_from, write_step, write_step_if, write_step_by, CommitJudgement, CommitBarred, CommitBusy, Waits, Settles, commit_judgement, commit_step, commit_step_if, commit_step_by, read_step, read_step_if, SpillJudgement, Leaves, Moves, spill_judgement, spill_step, spill_step_if, spill_step_by, spill_call_step, stale_step, hearing_step, hearing_step_in, with_hull_to_top, PumpStop, Rests, Breaks, pump_lists, pump_end, pump_step_with}
-use Rattle.gw_model.specs.Writer.{turn_step, turn_step_in, turn_step_if, max_waiting}
+use Rattle.gw_model.specs.Writer.{turn_step, turn_step_in, turn_step_if}
 use Rattle.gw_model.specs.Sound.{piece_of, pieces_of, issued_jobs, IsIssued, AreBelow}
 use Rattle.gw_model.proofs.Storing.{joined_plain}
 use Rattle.gw_model.proofs.Keeping.{Moved, send_moves, pump_moves}

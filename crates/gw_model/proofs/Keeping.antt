@@ -2,6 +2,7 @@
 use Rattle.std.proofs.Common.{Option, ◌≡◌, ℕ, ◌+◌, ◌-◌, Bool, true, false, not, cond, List, [], ◌∷◌, ◌++◌, map, length, drop, None, Some, nat_le, nat_lt, refl, sym, ◌∙◌, ap, append-nil, append_assoc, arith}
 use Rattle.std.specs.Prelude.{min, ◌^◌, ◌==◌, ◌&&◌, if◌then◌else◌, is_some}
 use Rattle.std.specs.List.{filter}
+use Rattle.gw_model.specs.Bounds.{max_waiting}
 use Rattle.gw_model.specs.declared.Stable.{Stable}
 use Rattle.gw_model.specs.declared.Stable.TheVariants.{Unstable}
 use Rattle.gw_model.specs.Order.{Accepted, Piece, walk, pieces, reach, ordered_writes, standing_writes, piece_at, with_write, with_writes}
@@ -10,7 +11,7 @@ use Rattle.gw_model.specs.declared.limits.Limits.{Limits}
 use Rattle.gw_model.specs.File.{Task, Put, Settle, Fetch, Compare, Job, File, side_of, is_spilled, is_fetch, is_stale, Cause, Failure, Phase, Live, Stale, Append, Spill, ready_weight, opened_file}
 use Rattle.gw_model.specs.declared.Hull.{Hull}
 use Rattle.gw_model.specs.Admission.{WriteRequest, write_step, write_step_if, write_step_by, WriteJudgement, Barred, Busy, Compared, Again, Taken, write_judgement, with_accepted, with_use, with_ready_sent, sent_lists, with_lists, JobLists, with_held, stale_step, writes_with_place, writes_with_ticket, Repeat, Differs, Unanswered, Answered, Takes, repeat_of, repeat_step, repeat_step_by, repeat_step_if, repeat_step_read, repeat_step_at, write_from, with_jobs, job, CommitJudgement, CommitBarred, CommitBusy, Waits, Settles, CommitRequest, ReadRequest, commit_step, commit_step_if, commit_step_by, commit_judgement, read_step, read_step_if, SpillJudgement, Leaves, Moves, spill_judgement, spill_step, spill_step_if, spill_step_by, spill_call_step, with_placed_end, PumpFront, Full, Plain, Loads, pump_front, PumpStop, Rests, Breaks, PumpWalk, pump_lists, pump_one, load_step, load_done, load_kept, pump_end, pump_step_with, hearing_step, hearing_step_in, with_hull_to_top}
-use Rattle.gw_model.specs.Writer.{turn_step, turn_step_in, turn_step_if, sync_step, max_waiting}
+use Rattle.gw_model.specs.Writer.{turn_step, turn_step_in, turn_step_if, sync_step}
 use Rattle.gw_model.specs.Ending.{give_up_step}
 use Rattle.gw_model.specs.Sound.{plain_piece, pieces_of, piece_of, IsIssued}
 use Rattle.gw_model.proofs.Fold.{pieces_let_go}

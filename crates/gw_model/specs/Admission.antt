@@ -8,23 +8,9 @@ use Rattle.gw_model.specs.declared.Hull.{Hull}
 use Rattle.gw_model.specs.Order.{Accepted, end_of, Piece, pieces, reach, kept_write, with_let_go_above, walk, with_write, writes_beyond, reach_past}
 use Rattle.gw_model.specs.Ahead.{CallResult, Outcomes, Good, Bad, next_call, is_refused, past_refusal}
 use Rattle.gw_model.specs.declared.limits.Limits.{Limits}
+use Rattle.gw_model.specs.Statuses.{io, inval, jukebox}
+use Rattle.gw_model.specs.Bounds.{max_transfer, base_weight}
 use Rattle.gw_model.specs.File.{Task, Put, Compare, Fetch, Settle, Job, Waiting, Body, Wrote, NotWritten, NotCommitted, NotGiven, SystemErr, Silence, Answer, Failure, Cause, Append, Spill, Phase, Live, Stale, AdmissionState, File, Side, side_of, entry_of, Step, reach_of, pending_writes, top_of, is_spilled, ready_weight, memory_weight, settle_count, is_fetch, is_stale, is_empty}
-
--- Statuses of RFC 1813 section 2.6: NFS3ERR_IO, NFS3ERR_INVAL, NFS3ERR_FBIG, NFS3ERR_STALE and NFS3ERR_JUKEBOX.
-abbrev pub io : ℕ
-io = 5
-
-abbrev pub inval : ℕ
-inval = 22
-
-abbrev pub fbig : ℕ
-fbig = 27
-
-abbrev pub stale_file : ℕ
-stale_file = 70
-
-abbrev pub jukebox : ℕ
-jukebox = 10008
 
 pub record WriteRequest : Type 0 where
   pub offset : ℕ
@@ -151,7 +137,7 @@ abbrev pub new_write_judgement : Limits → Side → WriteRequest → Option Acc
 new_write_judgement limits s q (Some entry) = Again entry
 new_write_judgement limits s q None =
     let above = nat_lt s.seen.reach q.offset in
-    let weight = 1024 + length q.bytes in
+    let weight = base_weight + length q.bytes in
     if nat_le limits.history (length s.seen.entries) then Busy
     else if above && (nat_le limits.pending_max (length s.seen.pending) || nat_le (limits.history - limits.history / 16) (length s.seen.entries)) then Busy
     else if above && nat_lt limits.memory_cap (memory_weight s.seen.pending + weight) then Busy
@@ -162,7 +148,7 @@ unfoldable pub write_judgement : Limits → Side → WriteRequest → WriteJudge
 write_judgement limits s q =
     if is_stale s.held.phase then Barred
     else if nat_le (q.offset + length q.bytes) s.seen.reach
-    then (if nat_lt limits.ready_cap (ready_weight s.held.ready + (1024 + length q.bytes)) then Busy else Compared)
+    then (if nat_lt limits.ready_cap (ready_weight s.held.ready + (base_weight + length q.bytes)) then Busy else Compared)
     else new_write_judgement limits s q (same_range q.offset (length q.bytes) s.seen.pending)
 
 abbrev pub answer_step : File → ℕ → Body → Outcomes → Step
@@ -298,11 +284,11 @@ commit_step limits f q t = commit_step_if (is_refused t) limits f q t
 abbrev pub read_step_if : Bool → Bool → Limits → File → ReadRequest → Outcomes → Step
 read_step_if true busy limits f q t = no_memory_step f q.ticket t
 read_step_if false true limits f q t = answer_step (with_held f (with_use limits q.moment f.held)) q.ticket (NotGiven jukebox) t
-read_step_if false false limits f q t = silent_step (with_held f (with_use limits q.moment (with_jobs (job (Fetch q.offset (min q.count (2 ^ 20))) (Some q.ticket) ∷ []) f.held))) t
+read_step_if false false limits f q t = silent_step (with_held f (with_use limits q.moment (with_jobs (job (Fetch q.offset (min q.count max_transfer)) (Some q.ticket) ∷ []) f.held))) t
 
 -- A READ (RFC 1813 section 3.3.6) of an open file.
 unfoldable pub read_step : Limits → File → ReadRequest → Outcomes → Step
-read_step limits f q t = read_step_if (is_refused t) (nat_lt limits.ready_cap (ready_weight f.held.ready + 1024)) limits f q t
+read_step limits f q t = read_step_if (is_refused t) (nat_lt limits.ready_cap (ready_weight f.held.ready + base_weight)) limits f q t
 
 -- giving up
 

@@ -1,3 +1,4 @@
 pub mod Desk
 pub mod Entries
 pub mod Laws
+pub mod Answers

@@ -5,6 +5,6 @@ mod answer;
 mod desk;
 mod laws;
 
-pub use answer::{Answer, Body};
+pub use answer::{Answer, Body, stable_how};
 pub use desk::{IssueFault, ReplyDesk, Sent, Ticket};
 pub use laws::{number_laws, reply_laws};
