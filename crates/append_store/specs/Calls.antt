@@ -30,9 +30,9 @@ pub record Guards (old new : ObjectState) (before now : ℕ) : Type 0 where
   pub held : before ≡ now → durable_of old ≤ durable_of new
 
 -- how many bytes of a piece of so many were added
-abbrev pub added : {T : Type 0} → Result T AppendFault → ℕ → ℕ
-added (Ok x) n = n
-added (Err e) n = e.kept
+abbrev pub added_count : {T : Type 0} → Result T AppendFault → ℕ → ℕ
+added_count (Ok x) n = n
+added_count (Err e) n = e.kept
 
 -- so many of these bytes, from an offset on
 abbrev pub part_at : List ℕ → ℕ → ℕ → List ℕ

@@ -1,7 +1,7 @@
 -- A file in memory, as contracts see it, and what its calls do.
 use Rattle.std.specs.Prelude.{◌≡◌, ◌⊎◌, ◌+◌, ◌-◌, ◌^◌, min, ℕ, Bool, true, false, List, [], length, take, Option, Some, None, is_some, is_err, Result, Ok, Err}
 use Rattle.gw_model.specs.declared.object.ObjectId.{ObjectId}
-use Rattle.gw_outside.specs.Causes.{raised, count_after}
+use Rattle.gw_outside.specs.Causes.{next_count, count_after}
 use Rattle.gw_outside.specs.Tally.{no_calls, one_call}
 use Rattle.gw_outside.specs.declared.tally.Tally.{Tally}
 use Rattle.append_store.specs.Plan.{due_of}
@@ -23,8 +23,8 @@ pub record FileState : Type 0 where
   pub starved : ℕ
   pub tally : Tally
 
-abbrev pub shown : MemFile → FileState
-shown f = record {
+abbrev pub file_state : MemFile → FileState
+file_state f = record {
   object = f.object;
   content = f.bytes.items;
   durable = f.durable;
@@ -41,27 +41,27 @@ file_count f = min (f.planned + f.starved) (2 ^ 64 - 1)
 
 -- what is planned for the next counted call
 abbrev pub next_due : FileState → Option ℕ
-next_due f = due_of f.plan (raised f.calls)
+next_due f = due_of f.plan (next_count f.calls)
 
 -- a named append keeps the lesser of what its entry says and the piece; a growth that finds no
 -- memory keeps nothing, and makes any append fail; another one is done
 abbrev pub AppendOutcome : {T : Type 0} → Option ℕ → ℕ → ℕ → ℕ → Result T AppendFault → Type 0
 AppendOutcome None size starved starved' (Ok x) = starved' ≡ starved
-AppendOutcome None size starved starved' (Err e) = (starved' ≡ raised starved) × (e.kept ≡ 0)
+AppendOutcome None size starved starved' (Err e) = (starved' ≡ next_count starved) × (e.kept ≡ 0)
 AppendOutcome (Some kept) size starved starved' (Ok x) = ⊥
-AppendOutcome (Some kept) size starved starved' (Err e) = ((starved' ≡ starved) × (e.kept ≡ min kept size)) ⊎ ((starved' ≡ raised starved) × (e.kept ≡ 0))
+AppendOutcome (Some kept) size starved starved' (Err e) = ((starved' ≡ starved) × (e.kept ≡ min kept size)) ⊎ ((starved' ≡ next_count starved) × (e.kept ≡ 0))
 
 -- an append of so many bytes is counted, and makes nothing durable
-pub record AppendsAsPlanned {T : Type 0} (old new : FileState) (size : ℕ) (result : Result T AppendFault) : Type 0 where
+pub record FileAppendsAsPlanned {T : Type 0} (old new : FileState) (size : ℕ) (result : Result T AppendFault) : Type 0 where
   pub durable : new.durable ≡ old.durable
   pub plan : new.plan ≡ old.plan
-  pub calls : new.calls ≡ raised old.calls
+  pub calls : new.calls ≡ next_count old.calls
   pub planned : new.planned ≡ count_after old.planned (is_some (next_due old))
   pub outcome : AppendOutcome (next_due old) size old.starved new.starved result
 
 -- the file after a counted call that changed nothing else
 abbrev pub counted_call : FileState → Bool → FileState
-counted_call f failed = record f { calls = raised f.calls; planned = count_after f.planned failed; tally = one_call failed f.tally }
+counted_call f failed = record f { calls = next_count f.calls; planned = count_after f.planned failed; tally = one_call failed f.tally }
 
 -- the file after a counted hsync
 abbrev pub synced_file : FileState → Bool → FileState
@@ -69,12 +69,12 @@ synced_file f true = counted_call f true
 synced_file f false = record (counted_call f false) { durable = length f.content }
 
 -- a read fails exactly where it is named, and changes nothing but the counts
-pub record ReadsAsPlanned {T E : Type 0} (old new : FileState) (result : Result T E) : Type 0 where
+pub record FileReadsAsPlanned {T E : Type 0} (old new : FileState) (result : Result T E) : Type 0 where
   pub failed : is_err result ≡ is_some (next_due old)
   pub counted : new ≡ counted_call old (is_err result)
 
 -- an hsync fails exactly where it is named, and changes nothing but the counts then
-pub record SyncsAsPlanned {T E : Type 0} (old new : FileState) (result : Result T E) : Type 0 where
+pub record FileSyncsAsPlanned {T E : Type 0} (old new : FileState) (result : Result T E) : Type 0 where
   pub failed : is_err result ≡ is_some (next_due old)
   pub counted : new ≡ synced_file old (is_err result)
 
@@ -84,8 +84,8 @@ pub record IsDue (old new : MemFile) (kept : Option ℕ) : Type 0 where
   pub bytes : new.bytes ≡ old.bytes
   pub durable : new.durable ≡ old.durable
   pub plan : new.plan ≡ old.plan
-  pub calls : new.calls ≡ raised old.calls
-  pub due : kept ≡ next_due (shown old)
+  pub calls : new.calls ≡ next_count old.calls
+  pub due : kept ≡ next_due (file_state old)
   pub planned : new.planned ≡ count_after old.planned (is_some kept)
   pub starved : new.starved ≡ old.starved
   pub tally : new.tally ≡ old.tally

@@ -2,7 +2,7 @@
 use Rattle.std.specs.Prelude.{◌≡◌, ◌+◌, ◌-◌, ◌^◌, ℕ, Bool, true, false, is_none, IsNone, IsSome, List, [], ◌∷◌, length, Option, Some, None}
 use Rattle.gw_model.specs.declared.object.KeptObject.{KeptObject}
 use Rattle.gw_model.specs.declared.object.ObjectId.{ObjectId}
-use Rattle.gw_outside.specs.Causes.{raised}
+use Rattle.gw_outside.specs.Causes.{next_count}
 use Rattle.gw_outside.specs.Tally.{no_calls}
 use Rattle.append_store.specs.Plan.{plan_for, due_of}
 use Rattle.append_store.specs.Calls.{Creates}
@@ -37,20 +37,20 @@ slot_of failing object None = record { state = Missing; losses = 0; calls = 0; p
 slot_of failing object (Some entry) = entry_slot object entry
 
 -- an object that is there, with its length
-abbrev pub listed_one : ObjectId → Spot → List KeptObject → List KeptObject
-listed_one object (Gone f) rest = rest
-listed_one object (Here f) rest = record { object = object; length = length f.bytes.items } ∷ rest
-listed_one object Out rest = rest
+abbrev pub entry_listing : ObjectId → Spot → List KeptObject → List KeptObject
+entry_listing object (Gone f) rest = rest
+entry_listing object (Here f) rest = record { object = object; length = length f.bytes.items } ∷ rest
+entry_listing object Out rest = rest
 
 -- the entries that are there, with their lengths, in order
-abbrev pub listed : List (ObjectId × Entry) → List KeptObject
-listed [] = []
-listed (e ∷ es) = listed_one e.0 e.1.spot (listed es)
+abbrev pub entries_listing : List (ObjectId × Entry) → List KeptObject
+entries_listing [] = []
+entries_listing (e ∷ es) = entry_listing e.0 e.1.spot (entries_listing es)
 
 -- a create is counted, but of an object that is out
 abbrev pub calls_after_create : ObjectState → ℕ → ℕ
-calls_after_create Missing calls = raised calls
-calls_after_create (Kept bytes durable) calls = raised calls
+calls_after_create Missing calls = next_count calls
+calls_after_create (Kept bytes durable) calls = next_count calls
 calls_after_create (Lent mark) calls = calls
 
 pub record CountsCreate (old new : Slot) : Type 0 where
@@ -60,7 +60,7 @@ pub record CountsCreate (old new : Slot) : Type 0 where
 
 -- what is planned for the next counted call on this object
 abbrev pub slot_due : Slot → Option ℕ
-slot_due slot = due_of slot.plan (raised slot.calls)
+slot_due slot = due_of slot.plan (next_count slot.calls)
 
 -- a create is done exactly where its call isn't named, and changes nothing else
 pub record CreatesSlot (old new : Slot) (made : Bool) : Type 0 where
@@ -74,7 +74,7 @@ pub record IsTakenOf (old : Slot) (name : ObjectId) (file : FileState) : Type 0 
   pub object : file.object ≡ name
   pub kept : old.state ≡ Kept file.content file.durable
   pub plan : file.plan ≡ old.plan
-  pub calls : file.calls ≡ raised old.calls
+  pub calls : file.calls ≡ next_count old.calls
   pub planned : file.planned ≡ 0
   pub starved : file.starved ≡ 0
   pub tally : file.tally ≡ no_calls
@@ -87,14 +87,14 @@ pub record IsOut (old new : Slot) (name : ObjectId) : Type 0 where
 pub record OnlyCounts (old new : Slot) : Type 0 where
   pub state : new.state ≡ old.state
   pub losses : new.losses ≡ old.losses
-  pub calls : new.calls ≡ raised old.calls
+  pub calls : new.calls ≡ next_count old.calls
   pub plan : new.plan ≡ old.plan
 
 -- the object is gone, which is a loss, and the call was counted
 pub record IsDeleted (old new : Slot) : Type 0 where
   pub state : new.state ≡ Missing
   pub losses : new.losses ≡ old.losses + 1
-  pub calls : new.calls ≡ raised old.calls
+  pub calls : new.calls ≡ next_count old.calls
   pub plan : new.plan ≡ old.plan
 
 -- a deletion is done where its call isn't named, unless the losses stand at the greatest u64

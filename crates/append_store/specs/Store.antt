@@ -1,10 +1,10 @@
 -- A store in memory, as contracts see it, and what its calls do with the planned failures.
 use Rattle.std.specs.Prelude.{◌≡◌, ◌+◌, ◌-◌, ◌^◌, min, ℕ, Bool, true, false, List, is_some, is_err, OnErr, IsSome, IsNone, Option, Some, None, Result, Ok, Err}
 use Rattle.gw_model.specs.declared.object.ObjectId.{ObjectId}
-use Rattle.gw_outside.specs.Causes.{raised, count_after}
+use Rattle.gw_outside.specs.Causes.{next_count, count_after}
 use Rattle.gw_outside.specs.Tally.{no_calls}
 use Rattle.gw_outside.specs.declared.tally.Tally.{Tally}
-use Rattle.append_store.specs.Plan.{plan_for, names_store_call}
+use Rattle.append_store.specs.Plan.{plan_for, is_store_call_named}
 use Rattle.append_store.specs.Calls.{object_cmp}
 use Rattle.append_store.specs.State.{ObjectState, Missing}
 use Rattle.append_store.specs.File.{FileState}
@@ -51,7 +51,7 @@ abbrev pub store_count : MemCluster → ℕ
 store_count c = min (c.planned + c.starved) (2 ^ 64 - 1)
 
 -- nothing is there, and all planned calls are to come
-pub record IsNew (store : StoreState) (entries : List Planned) : Type 0 where
+pub record IsNewStore (store : StoreState) (entries : List Planned) : Type 0 where
   pub slots : (q : ObjectId) → store.slots q ≡ record { state = Missing; losses = 0; calls = 0; plan = plan_for q entries }
   pub failing : store.failing ≡ entries
   pub calls : store.calls ≡ 0
@@ -62,8 +62,8 @@ pub record IsNew (store : StoreState) (entries : List Planned) : Type 0 where
 -- a create that is named fails; another is done, unless the making of an entry finds no memory
 abbrev pub CreateOutcome : {T : Type 0} → StoreState → StoreState → ObjectId → Result T CreateFault → Type 0
 CreateOutcome old new object (Ok x) = IsNone (slot_due (old.slots object)) × (new.planned ≡ old.planned) × (new.starved ≡ old.starved) × CountsCreate (old.slots object) (new.slots object)
-CreateOutcome old new object (Err Fault) = IsSome (slot_due (old.slots object)) × (new.planned ≡ raised old.planned) × (new.starved ≡ old.starved) × CountsCreate (old.slots object) (new.slots object)
-CreateOutcome old new object (Err Memory) = ((old.slots object).state ≡ Missing) × (new.planned ≡ old.planned) × (new.starved ≡ raised old.starved) × (new.slots object ≡ old.slots object)
+CreateOutcome old new object (Err Fault) = IsSome (slot_due (old.slots object)) × (new.planned ≡ next_count old.planned) × (new.starved ≡ old.starved) × CountsCreate (old.slots object) (new.slots object)
+CreateOutcome old new object (Err Memory) = ((old.slots object).state ≡ Missing) × (new.planned ≡ old.planned) × (new.starved ≡ next_count old.starved) × (new.slots object ≡ old.slots object)
 
 pub record CreatesAsPlanned {T : Type 0} (old new : StoreState) (object : ObjectId) (result : Result T CreateFault) : Type 0 where
   pub failing : new.failing ≡ old.failing
@@ -91,7 +91,7 @@ pub record ReadsClosedAsPlanned {T E : Type 0} (old new : StoreState) (object : 
 -- a deletion is done where its call isn't named, unless the losses stand at the greatest u64
 abbrev pub DeleteOutcome : {T E : Type 0} → Option ℕ → Slot → Slot → ℕ → ℕ → Result T E → Type 0
 DeleteOutcome None old new starved starved' (Ok x) = IsDeleted old new × (starved' ≡ starved)
-DeleteOutcome None old new starved starved' (Err e) = OnlyCounts old new × (old.losses ≡ 2 ^ 64 - 1) × (starved' ≡ raised starved)
+DeleteOutcome None old new starved starved' (Err e) = OnlyCounts old new × (old.losses ≡ 2 ^ 64 - 1) × (starved' ≡ next_count starved)
 DeleteOutcome (Some kept) old new starved starved' (Ok x) = ⊥
 DeleteOutcome (Some kept) old new starved starved' (Err e) = OnlyCounts old new × (starved' ≡ starved)
 
@@ -103,13 +103,13 @@ pub record DeletesAsPlanned {T E : Type 0} (old new : StoreState) (object : Obje
 
 -- whether the next call on the store as a whole is to fail
 abbrev pub store_due : StoreState → Bool
-store_due s = names_store_call s.failing (raised s.calls)
+store_due s = is_store_call_named s.failing (next_count s.calls)
 
 -- a listing that isn't named is done, unless it finds no memory
 abbrev pub ListOutcome : {T : Type 0} → Bool → ℕ → ℕ → Result T ListFault → Type 0
 ListOutcome false starved starved' (Ok x) = starved' ≡ starved
 ListOutcome false starved starved' (Err ListFails) = ⊥
-ListOutcome false starved starved' (Err ListStarves) = starved' ≡ raised starved
+ListOutcome false starved starved' (Err ListStarves) = starved' ≡ next_count starved
 ListOutcome true starved starved' (Ok x) = ⊥
 ListOutcome true starved starved' (Err ListFails) = starved' ≡ starved
 ListOutcome true starved starved' (Err ListStarves) = ⊥
@@ -117,7 +117,7 @@ ListOutcome true starved starved' (Err ListStarves) = ⊥
 -- a listing is counted, and changes nothing but the counts
 pub record ListsAsPlanned {T : Type 0} (old new : StoreState) (result : Result T ListFault) : Type 0 where
   pub failing : new.failing ≡ old.failing
-  pub calls : new.calls ≡ raised old.calls
+  pub calls : new.calls ≡ next_count old.calls
   pub planned : new.planned ≡ count_after old.planned (store_due old)
   pub outcome : ListOutcome (store_due old) old.starved new.starved result
 
@@ -129,7 +129,7 @@ reopened_slot pick false slot = cut_slot pick slot
 -- a reopening fails exactly where it is named, and changes nothing but the counts then
 pub record ReopensAsPlanned {T E : Type 0} (old new : StoreState) (pick : ℕ) (result : Result T E) : Type 0 where
   pub failing : new.failing ≡ old.failing
-  pub calls : new.calls ≡ raised old.calls
+  pub calls : new.calls ≡ next_count old.calls
   pub failed : is_err result ≡ store_due old
   pub planned : new.planned ≡ count_after old.planned (is_err result)
   pub starved : new.starved ≡ old.starved

@@ -8,10 +8,10 @@ ghost use Rattle.gw_outside.specs.Causes.{HasCause, Rose, Carries};
 ghost use Rattle.gw_outside.specs.Tally.{joined_tally, no_calls, one_call};
 ghost use Rattle.append_store.specs.State.{IsAway, IsCrashImage, IsThere, Kept, Missing, Lent, bytes_of, content_in};
 ghost use Rattle.append_store.specs.Calls.{Creates, MayCreate, Guards, IsRising, Lists, creation_tally, listing_tally, object_cmp, part_at};
-ghost use Rattle.append_store.specs.Plan.{is_of, names_store_call, plan_for};
-ghost use Rattle.append_store.specs.File.{file_count, shown};
-ghost use Rattle.append_store.specs.Slots.{CreatesSlot, IsCut, IsTakenOf, IsBackAs, Related, cut_slot, listed, slot_of};
-ghost use Rattle.append_store.specs.Store.{IsNew, CreatesAsPlanned, TakesAsPlanned, ReadsClosedAsPlanned, DeletesAsPlanned, ListsAsPlanned, ReopensAsPlanned, AddsFaults, losses_at, slot_at, state_at, store_count, store_of};
+ghost use Rattle.append_store.specs.Plan.{is_of, is_store_call_named, plan_for};
+ghost use Rattle.append_store.specs.File.{file_count, file_state};
+ghost use Rattle.append_store.specs.Slots.{CreatesSlot, IsCut, IsTakenOf, IsBackAs, Related, cut_slot, entries_listing, slot_of};
+ghost use Rattle.append_store.specs.Store.{IsNewStore, CreatesAsPlanned, TakesAsPlanned, ReadsClosedAsPlanned, DeletesAsPlanned, ListsAsPlanned, ReopensAsPlanned, AddsFaults, losses_at, slot_at, state_at, store_count, store_of};
 
 use crate::slots::{
     Deletion, Entry, Spot, bytes_at, create_at, cut_at, delete_at, give_at, read_at, take_at,
@@ -60,9 +60,9 @@ fn plan_of(alloc: Global, failing: &[Planned], object: ObjectId) -> Result<Vec<P
 }
 
 // Whether the plan names this call on the store as a whole.
-#[tactic(auto, unfolding(crate::specs::Plan::names_store_call))]
+#[tactic(auto, unfolding(crate::specs::Plan::is_store_call_named))]
 fn names_call(failing: &[Planned], call: u64) -> bool
-    ensures { result ≡ names_store_call failing.now call }
+    ensures { result ≡ is_store_call_named failing.now call }
 {
     for entry in failing {
         if entry.object.is_none() && entry.call == call {
@@ -77,7 +77,7 @@ fn listing(
     alloc: Global,
     entries: &BTreeMap<ObjectId, Entry>,
 ) -> Result<Vec<KeptObject>, AllocError>
-    ensures items { IfOk result (λ all. all.items ≡ listed entries.now.entries) }
+    ensures items { IfOk result (λ all. all.items ≡ entries_listing entries.now.entries) }
     ensures ordered { IsOrdered object_cmp entries.now }
 {
     // A call on the map tells that its entries are in order, which the clause passes on.
@@ -152,7 +152,7 @@ fn create_in(
 impl MemCluster {
     /// An empty store. The calls that `failing` names fail.
     pub fn new(alloc: Global, failing: Vec<Planned>) -> Self
-        ensures { IsNew (store_of result) failing.items }
+        ensures { IsNewStore (store_of result) failing.items }
     {
         MemCluster {
             alloc,
@@ -260,16 +260,16 @@ impl Cluster for MemCluster {
 
     fn take_file(&mut self, object: ObjectId) -> Result<MemFile, StoreFault>
         requires { IsThere (state_at self.old object) }
-        ensures taken { IfOk result (λ file. state_at self.old object ≡ Kept (shown file).content (shown file).durable) }
-        ensures out { IfOk result (λ file. state_at self.new object ≡ Lent ((shown file).object ∷ [])) }
-        ensures fresh { IfOk result (λ file. file_count (shown file) ≡ 0) }
-        ensures no_calls { IfOk result (λ file. (shown file).tally ≡ no_calls) }
+        ensures taken { IfOk result (λ file. state_at self.old object ≡ Kept (file_state file).content (file_state file).durable) }
+        ensures out { IfOk result (λ file. state_at self.new object ≡ Lent ((file_state file).object ∷ [])) }
+        ensures fresh { IfOk result (λ file. file_count (file_state file) ≡ 0) }
+        ensures no_calls { IfOk result (λ file. (file_state file).tally ≡ no_calls) }
         ensures failed { OnErr result (state_at self.new object ≡ state_at self.old object) }
         ensures others { (q : ObjectId) → q ≢ object → slot_at self.new q ≡ slot_at self.old q }
         ensures no_losses { (q : ObjectId) → losses_at self.new q ≡ losses_at self.old q }
         ensures counted { self.new.tally ≡ one_call (is_err result) self.old.tally }
         ensures cause { HasCause (store_count self.old) (store_count self.new) result }
-        ensures file { IfOk result (λ file. IsTakenOf (slot_at self.old object) object (shown file)) }
+        ensures file { IfOk result (λ file. IsTakenOf (slot_at self.old object) object (file_state file)) }
         ensures planned { TakesAsPlanned (store_of self.old) (store_of self.new) object result }
     {
         match self.entries.get_mut(&object) {
@@ -287,17 +287,17 @@ impl Cluster for MemCluster {
     }
 
     fn give_file(&mut self, object: ObjectId, file: MemFile)
-        ensures own { state_at self.old object ≡ Lent ((shown file).object ∷ []) → state_at self.new object ≡ Kept (shown file).content (shown file).durable }
-        ensures own_losses { state_at self.old object ≡ Lent ((shown file).object ∷ []) → losses_at self.new object ≡ losses_at self.old object }
-        ensures foreign { state_at self.old object ≢ Lent ((shown file).object ∷ []) → (state_at self.new object ≡ state_at self.old object) ⊎ (losses_at self.old object < losses_at self.new object) }
+        ensures own { state_at self.old object ≡ Lent ((file_state file).object ∷ []) → state_at self.new object ≡ Kept (file_state file).content (file_state file).durable }
+        ensures own_losses { state_at self.old object ≡ Lent ((file_state file).object ∷ []) → losses_at self.new object ≡ losses_at self.old object }
+        ensures foreign { state_at self.old object ≢ Lent ((file_state file).object ∷ []) → (state_at self.new object ≡ state_at self.old object) ⊎ (losses_at self.old object < losses_at self.new object) }
         ensures losses { losses_at self.old object ≤ losses_at self.new object }
         ensures others { (q : ObjectId) → q ≢ object → slot_at self.new q ≡ slot_at self.old q }
         ensures no_losses { (q : ObjectId) → q ≢ object → losses_at self.new q ≡ losses_at self.old q }
-        ensures counted { self.new.tally ≡ joined_tally self.old.tally (shown file).tally }
-        ensures count { Carries (store_count self.old) (file_count (shown file)) (store_count self.new) }
-        ensures back { state_at self.old object ≡ Lent ((shown file).object ∷ []) → IsBackAs (slot_at self.old object) (slot_at self.new object) (shown file) }
-        ensures let_go { state_at self.old object ≢ Lent ((shown file).object ∷ []) → slot_at self.new object ≡ slot_at self.old object }
-        ensures faults { AddsFaults (store_of self.old) (store_of self.new) (shown file) }
+        ensures counted { self.new.tally ≡ joined_tally self.old.tally (file_state file).tally }
+        ensures count { Carries (store_count self.old) (file_count (file_state file)) (store_count self.new) }
+        ensures back { state_at self.old object ≡ Lent ((file_state file).object ∷ []) → IsBackAs (slot_at self.old object) (slot_at self.new object) (file_state file) }
+        ensures let_go { state_at self.old object ≢ Lent ((file_state file).object ∷ []) → slot_at self.new object ≡ slot_at self.old object }
+        ensures faults { AddsFaults (store_of self.old) (store_of self.new) (file_state file) }
     {
         self.planned = self.planned.saturating_add(file.planned());
         self.starved = self.starved.saturating_add(file.starved());

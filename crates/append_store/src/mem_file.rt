@@ -39,8 +39,8 @@ impl AppendFile for MemFile {
     ghost use Rattle.std.specs.Prelude.{IfOk, IfErr, OnOk, is_err};
     ghost use Rattle.gw_outside.specs.Causes.{HasCause};
     ghost use Rattle.gw_outside.specs.Tally.{one_call};
-    ghost use Rattle.append_store.specs.Calls.{added};
-    ghost use Rattle.append_store.specs.File.{AppendsAsPlanned, ReadsAsPlanned, SyncsAsPlanned, file_count, shown};
+    ghost use Rattle.append_store.specs.Calls.{added_count};
+    ghost use Rattle.append_store.specs.File.{FileAppendsAsPlanned, FileReadsAsPlanned, FileSyncsAsPlanned, file_count, file_state};
 
     ghost tells = { Unit {0} };
 
@@ -50,7 +50,7 @@ impl AppendFile for MemFile {
 
     ghost durable = { λ f. f.durable };
 
-    ghost count = { λ f. file_count (shown f) };
+    ghost count = { λ f. file_count (file_state f) };
 
     ghost tally = { λ f. f.tally };
 
@@ -58,12 +58,12 @@ impl AppendFile for MemFile {
 
     fn append(&mut self, bytes: &[u8]) -> Result<(), AppendFault>
         ensures kept { IfErr result (λ e. e.kept ≤ length bytes.now) }
-        ensures content { (shown self.new).content ≡ (shown self.old).content ++ take (added result (length bytes.now)) bytes.now }
-        ensures durable { (shown self.old).durable ≤ (shown self.new).durable }
-        ensures same { (shown self.new).object ≡ (shown self.old).object }
-        ensures counted { (shown self.new).tally ≡ one_call (is_err result) (shown self.old).tally }
-        ensures cause { HasCause (file_count (shown self.old)) (file_count (shown self.new)) result }
-        ensures planned { AppendsAsPlanned (shown self.old) (shown self.new) (length bytes.now) result }
+        ensures content { (file_state self.new).content ≡ (file_state self.old).content ++ take (added_count result (length bytes.now)) bytes.now }
+        ensures durable { (file_state self.old).durable ≤ (file_state self.new).durable }
+        ensures same { (file_state self.new).object ≡ (file_state self.old).object }
+        ensures counted { (file_state self.new).tally ≡ one_call (is_err result) (file_state self.old).tally }
+        ensures cause { HasCause (file_count (file_state self.old)) (file_count (file_state self.new)) result }
+        ensures planned { FileAppendsAsPlanned (file_state self.old) (file_state self.new) (length bytes.now) result }
     {
         let due = self.due();
         let kept = match due {
@@ -84,13 +84,13 @@ impl AppendFile for MemFile {
     }
 
     fn hsync(&mut self) -> Result<(), StoreFault>
-        ensures done { OnOk result ((shown self.new).durable ≡ length (shown self.new).content) }
-        ensures content { (shown self.new).content ≡ (shown self.old).content }
-        ensures durable { (shown self.old).durable ≤ (shown self.new).durable }
-        ensures same { (shown self.new).object ≡ (shown self.old).object }
-        ensures counted { (shown self.new).tally ≡ one_call (is_err result) (shown self.old).tally }
-        ensures cause { HasCause (file_count (shown self.old)) (file_count (shown self.new)) result }
-        ensures planned { SyncsAsPlanned (shown self.old) (shown self.new) result }
+        ensures done { OnOk result ((file_state self.new).durable ≡ length (file_state self.new).content) }
+        ensures content { (file_state self.new).content ≡ (file_state self.old).content }
+        ensures durable { (file_state self.old).durable ≤ (file_state self.new).durable }
+        ensures same { (file_state self.new).object ≡ (file_state self.old).object }
+        ensures counted { (file_state self.new).tally ≡ one_call (is_err result) (file_state self.old).tally }
+        ensures cause { HasCause (file_count (file_state self.old)) (file_count (file_state self.new)) result }
+        ensures planned { FileSyncsAsPlanned (file_state self.old) (file_state self.new) result }
     {
         if self.fails() {
             return Err(StoreFault);
@@ -100,15 +100,15 @@ impl AppendFile for MemFile {
     }
 
     fn read_at(&mut self, offset: u64, out: &mut [u8]) -> Result<usize, StoreFault>
-        ensures length { IfOk result (λ n. n ≡ min (length out.old) (length (shown self.old).content - offset)) }
-        ensures bytes { IfOk result (λ n. take n out.new ≡ part_at (shown self.old).content offset n) }
-        ensures rest { IfOk result (λ n. out.new ≡ part_at (shown self.old).content offset n ++ drop n out.old) }
-        ensures content { (shown self.new).content ≡ (shown self.old).content }
-        ensures durable { (shown self.new).durable ≡ (shown self.old).durable }
-        ensures same { (shown self.new).object ≡ (shown self.old).object }
-        ensures counted { (shown self.new).tally ≡ one_call (is_err result) (shown self.old).tally }
-        ensures cause { HasCause (file_count (shown self.old)) (file_count (shown self.new)) result }
-        ensures planned { ReadsAsPlanned (shown self.old) (shown self.new) result }
+        ensures length { IfOk result (λ n. n ≡ min (length out.old) (length (file_state self.old).content - offset)) }
+        ensures bytes { IfOk result (λ n. take n out.new ≡ part_at (file_state self.old).content offset n) }
+        ensures rest { IfOk result (λ n. out.new ≡ part_at (file_state self.old).content offset n ++ drop n out.old) }
+        ensures content { (file_state self.new).content ≡ (file_state self.old).content }
+        ensures durable { (file_state self.new).durable ≡ (file_state self.old).durable }
+        ensures same { (file_state self.new).object ≡ (file_state self.old).object }
+        ensures counted { (file_state self.new).tally ≡ one_call (is_err result) (file_state self.old).tally }
+        ensures cause { HasCause (file_count (file_state self.old)) (file_count (file_state self.new)) result }
+        ensures planned { FileReadsAsPlanned (file_state self.old) (file_state self.new) result }
     {
         if self.fails() {
             return Err(StoreFault);
@@ -154,11 +154,11 @@ pub(crate) fn copy_part(bytes: &[u8], offset: u64, out: &mut [u8]) -> usize
 impl MemFile {
     ghost use Rattle.std.specs.Prelude.{length, is_some};
     ghost use Rattle.append_store.specs.State.{IsCrashImage, Kept};
-    ghost use Rattle.append_store.specs.File.{cut_file, IsFresh, IsDue, IsEmptied, IsHandedOut, counted_call, next_due, shown};
+    ghost use Rattle.append_store.specs.File.{cut_file, IsFresh, IsDue, IsEmptied, IsHandedOut, counted_call, next_due, file_state};
 
     // A file of no bytes, with the calls of this object that are to fail.
     pub(crate) fn empty(alloc: Global, object: ObjectId, plan: Vec<Planned>) -> Self
-        ensures { IsFresh (shown result) plan.items }
+        ensures { IsFresh (file_state result) plan.items }
     {
         MemFile {
             object,
@@ -186,8 +186,8 @@ impl MemFile {
 
     // Counts a call that fails exactly where it is to fail; whether it does.
     fn fails(&mut self) -> bool
-        ensures due { result ≡ is_some (next_due (shown self.old)) }
-        ensures counted { shown self.new ≡ counted_call (shown self.old) result }
+        ensures due { result ≡ is_some (next_due (file_state self.old)) }
+        ensures counted { file_state self.new ≡ counted_call (file_state self.old) result }
     {
         let due = self.due().is_some();
         self.tally.count(due);
@@ -196,48 +196,48 @@ impl MemFile {
 
     /// What the file counted since it was taken.
     pub fn tally(&self) -> Tally
-        ensures { result ≡ (shown self.now).tally }
+        ensures { result ≡ (file_state self.now).tally }
     {
         self.tally
     }
 
     /// The object that the file was taken of.
     pub fn object(&self) -> ObjectId
-        ensures { result ≡ (shown self.now).object }
+        ensures { result ≡ (file_state self.now).object }
     {
         self.object
     }
 
     /// How many calls since the file was taken failed because the plan names them.
     pub fn planned(&self) -> u64
-        ensures { result ≡ (shown self.now).planned }
+        ensures { result ≡ (file_state self.now).planned }
     {
         self.planned
     }
 
     /// How often since the file was taken a growth found no memory.
     pub fn starved(&self) -> u64
-        ensures { result ≡ (shown self.now).starved }
+        ensures { result ≡ (file_state self.now).starved }
     {
         self.starved
     }
 
     pub(crate) fn length(&self) -> u64
-        ensures { result ≡ length (shown self.now).content }
+        ensures { result ≡ length (file_state self.now).content }
     {
         self.bytes.len() as u64
     }
 
     pub(crate) fn bytes(&self) -> &[u8]
-        ensures { result.now ≡ (shown self.now).content }
+        ensures { result.now ≡ (file_state self.now).content }
     {
         &self.bytes
     }
 
     // Keeps what is durable and so many bytes more, and all of that is durable then.
     pub(crate) fn cut(&mut self, pick: u64)
-        ensures image { IsCrashImage (Kept (shown self.old).content (shown self.old).durable) (Kept (shown self.new).content (shown self.new).durable) }
-        ensures cut { shown self.new ≡ cut_file pick (shown self.old) }
+        ensures image { IsCrashImage (Kept (file_state self.old).content (file_state self.old).durable) (Kept (file_state self.new).content (file_state self.new).durable) }
+        ensures cut { file_state self.new ≡ cut_file pick (file_state self.old) }
     {
         let most = self.durable.saturating_add(pick as usize);
         let kept = self.bytes.len().min(most);
@@ -248,7 +248,7 @@ impl MemFile {
 
     // The file with no bytes.
     pub(crate) fn emptied(mut self) -> Self
-        ensures { IsEmptied (shown self) (shown result) }
+        ensures { IsEmptied (file_state self) (file_state result) }
     {
         self.durable = 0;
         self.bytes.clear();
@@ -257,7 +257,7 @@ impl MemFile {
 
     // The file under its name, with no faults and no calls.
     pub(crate) fn handed_out(mut self, object: ObjectId) -> Self
-        ensures { IsHandedOut (shown self) (shown result) object }
+        ensures { IsHandedOut (file_state self) (file_state result) object }
     {
         self.object = object;
         self.planned = 0;

@@ -4,7 +4,7 @@ ghost use Rattle.std.specs.Option.{option_copied};
 ghost use Rattle.gw_model.specs.declared.object.ObjectId.{ObjectId};
 ghost use Rattle.append_store.specs.State.{IsThere, Lent, bytes_of, content_in};
 ghost use Rattle.append_store.specs.Calls.{part_at};
-ghost use Rattle.append_store.specs.File.{shown};
+ghost use Rattle.append_store.specs.File.{file_state};
 ghost use Rattle.append_store.specs.Slots.{CreatesSlot, IsCut, DeletesSlot, IsTakenOf, IsOut, OnlyCounts, IsBackAs, entry_slot, slot_due};
 
 use crate::MemFile;
@@ -53,7 +53,7 @@ pub(crate) fn create_at(object: ObjectId, entry: &mut Entry) -> bool
 // Takes the file of an object out; None where the call is to fail.
 pub(crate) fn take_at(object: ObjectId, entry: &mut Entry) -> Option<MemFile>
     requires { IsThere (entry_slot object entry.old).state }
-    ensures taken { IfSome result (λ file. IsTakenOf (entry_slot object entry.old) object (shown file)) }
+    ensures taken { IfSome result (λ file. IsTakenOf (entry_slot object entry.old) object (file_state file)) }
     ensures out { OnSome result (IsOut (entry_slot object entry.old) (entry_slot object entry.new) object) }
     ensures failed { IfNone result (OnlyCounts (entry_slot object entry.old) (entry_slot object entry.new)) }
     ensures due { is_none result ≡ is_some (slot_due (entry_slot object entry.old)) }
@@ -72,8 +72,8 @@ pub(crate) fn take_at(object: ObjectId, entry: &mut Entry) -> Option<MemFile>
 
 // Puts a file back where it was taken, and lets go of it elsewhere.
 pub(crate) fn give_at(object: ObjectId, entry: &mut Entry, file: MemFile)
-    ensures own { (entry_slot object entry.old).state ≡ Lent ((shown file).object ∷ []) → IsBackAs (entry_slot object entry.old) (entry_slot object entry.new) (shown file) }
-    ensures foreign { (entry_slot object entry.old).state ≢ Lent ((shown file).object ∷ []) → entry_slot object entry.new ≡ entry_slot object entry.old }
+    ensures own { (entry_slot object entry.old).state ≡ Lent ((file_state file).object ∷ []) → IsBackAs (entry_slot object entry.old) (entry_slot object entry.new) (file_state file) }
+    ensures foreign { (entry_slot object entry.old).state ≢ Lent ((file_state file).object ∷ []) → entry_slot object entry.new ≡ entry_slot object entry.old }
 {
     if file.object() == object {
         if let Spot::Out = entry.spot {

@@ -5,7 +5,7 @@ ghost use Rattle.gw_outside.specs.Tally.{joined_tally, no_calls, one_call};
 ghost use Rattle.gw_outside.specs.declared.tally.Tally.{Tally};
 ghost use Rattle.gw_model.specs.declared.object.ObjectId.{ObjectId};
 ghost use Rattle.append_store.specs.State.{ObjectState, Missing, Kept, Lent, IsAway, IsCrashImage, IsThere, bytes_of};
-ghost use Rattle.append_store.specs.Calls.{Creates, MayCreate, Guards, IsRising, Lists, added, creation_tally, listing_tally, part_at};
+ghost use Rattle.append_store.specs.Calls.{Creates, MayCreate, Guards, IsRising, Lists, added_count, creation_tally, listing_tally, part_at};
 
 use gw_model::{KeptObject, ObjectId};
 
@@ -62,7 +62,7 @@ pub trait AppendFile: Drop {
     /// added.
     fn append(&mut self, bytes: &[u8]) -> Result<(), AppendFault>
         ensures kept { IfErr result (λ e. e.kept ≤ length bytes.now) }
-        ensures content { tells → content self.new ≡ content self.old ++ take (added result (length bytes.now)) bytes.now }
+        ensures content { tells → content self.new ≡ content self.old ++ take (added_count result (length bytes.now)) bytes.now }
         ensures durable { tells → durable self.old ≤ durable self.new }
         ensures same { mark self.new ≡ mark self.old }
         ensures counted { tally self.new ≡ one_call (is_err result) (tally self.old) }

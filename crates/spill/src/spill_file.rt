@@ -2,7 +2,7 @@
 ghost use Rattle.std.specs.Prelude.{◌≡◌, ◌≢◌, ℕ, ◌+◌, ◌<◌, ◌≤◌, ◌↔◌, [], ◌∷◌, ◌++◌, IfOk, OnOk, OnErr, IsErrOf, Err, length, vec_len, All, Contains, false, true};
 ghost use Rattle.gw_outside.specs.Causes.{Rose};
 ghost use Rattle.gw_outside.specs.Tally.{one_call};
-ghost use Rattle.spill_region.specs.Extents.{AreApart, end_of, next_span, with_placed, with_freed};
+ghost use Rattle.spill_region.specs.Extents.{AreApart, span_end, next_span, with_placed, with_freed};
 ghost use Rattle.spill.specs.Device.{bytes_from};
 ghost use Rattle.spill.specs.Kept.{bytes_at, extents_of, kept_without, region_after_fault, region_of};
 

@@ -1,6 +1,6 @@
 // Extents of a region, placed behind one another.
 ghost use Rattle.std.specs.Prelude.{◌≡◌, ◌≢◌, ◌+◌, ◌<◌, ◌≤◌, ◌↔◌, IfOk, OnOk, OnErr, length, Err, All, Contains};
-ghost use Rattle.spill_region.specs.Extents.{AreApart, IsSound, empty_region, next_span, with_placed, with_freed, end_of, length_sum};
+ghost use Rattle.spill_region.specs.Extents.{AreApart, IsSoundRegion, empty_region, next_span, with_placed, with_freed, span_end, length_sum};
 
 use std::alloc::Global;
 use std::collections::BTreeMap;
@@ -89,7 +89,7 @@ impl Region {
         ensures placed { IfOk result (λ e. e ≡ next_span self.old len) }
         ensures apart { IfOk result (λ e. All (AreApart e) self.old.live) }
         ensures fresh { IfOk result (λ e. All (λ x. x.start ≢ e.start) self.old.live) }
-        ensures inside { IfOk result (λ e. end_of e ≤ self.old.size) }
+        ensures inside { IfOk result (λ e. span_end e ≤ self.old.size) }
         ensures ok { OnOk result (self.new ≡ with_placed self.old len) }
 
         // It is refused exactly where it doesn't fit, but for want of memory.
@@ -124,7 +124,7 @@ impl Region {
     /// region.
     pub fn live(&self) -> usize
         ensures count { result ≡ length self.now.live }
-        ensures sound { IsSound self.now }
+        ensures sound { IsSoundRegion self.now }
     {
         self.lens.len()
     }
