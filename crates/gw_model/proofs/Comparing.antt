@@ -9,7 +9,7 @@ use Rattle.gw_model.specs.declared.limits.Limits.{Limits}
 use Rattle.gw_model.specs.Order.{Accepted, Piece, pieces, joined_bytes, reach}
 use Rattle.gw_model.specs.Ahead.{Outcomes, CallResult, Good, Bad, next_call, is_refused}
 use Rattle.gw_model.specs.File.{Task, Put, Compare, Fetch, Settle, Job, Waiting, File, Side, Failure, Phase, Live, Stale, Append, Spill, Cause, side_of, reach_of, is_stale, is_fetch, ready_weight, memory_weight}
-use Rattle.gw_model.specs.Admission.{JobLists, with_lists, with_held, sent_lists, with_ready_sent, with_use, with_jobs, job, put_of, new_puts, settle_of, settles_at, with_accepted, same_range, WriteRequest, CommitRequest, ReadRequest, WriteJudgement, Barred, Busy, Compared, Again, Taken, new_write_judgement, write_judgement, Repeat, Differs, Unanswered, Answered, Takes, repeat_of, writes_with_ticket, repeat_step_by, repeat_step_if, repeat_step_read, repeat_step_at, write_from, write_step, write_step_if, write_step_by, CommitJudgement, CommitBarred, CommitBusy, Waits, Settles, commit_judgement, commit_step, commit_step_if, commit_step_by, read_step, read_step_if, SpillJudgement, Leaves, Moves, spill_judgement, spill_step, spill_step_if, spill_step_by, spill_call_step, stale_step, hearing_step, hearing_step_in, with_hull_to_top, PumpStop, Rests, Breaks, pump_lists, pump_end, pump_step_with}
+use Rattle.gw_model.specs.Admission.{job_in_line, JobLists, with_lists, with_held, sent_lists, with_ready_sent, with_use, with_jobs, job, put_of, new_puts, settle_of, settles_at, with_accepted, same_range, WriteRequest, CommitRequest, ReadRequest, WriteJudgement, Barred, Busy, Compared, Again, Taken, new_write_judgement, write_judgement, Repeat, Differs, Unanswered, Answered, Takes, repeat_of, writes_with_ticket, repeat_step_by, repeat_step_if, repeat_step_read, repeat_step_at, write_from, write_step, write_step_if, write_step_by, CommitJudgement, CommitBarred, CommitBusy, Waits, Settles, commit_judgement, commit_step, commit_step_if, commit_step_by, read_step, read_step_if, SpillJudgement, Leaves, Moves, spill_judgement, spill_step, spill_step_if, spill_step_by, spill_call_step, stale_step, hearing_step, hearing_step_in, with_hull_to_top, PumpStop, Rests, Breaks, pump_lists, pump_end, pump_step_with}
 use Rattle.gw_model.specs.Writer.{turn_step, turn_step_in, turn_step_if}
 use Rattle.gw_model.specs.Sound.{piece_of, pieces_of, issued_jobs, IsIssued, AreBelow}
 use Rattle.gw_model.proofs.Storing.{joined_plain}
@@ -59,6 +59,28 @@ fetches_below n (j ∷ js) = go j.task (λ m. fetches_below m js)
     go (Fetch offset count) rest = (tt, rest (n + 0))
     go Settle rest = rest n
 
+-- a job in the line reads what it did before
+
+map_below : (n : ℕ) (js : List Job) → AreBelow n js → AreBelow n (map job_in_line js)
+map_below n [] h = tt
+map_below n (j ∷ js) h = go j.task h (λ m. map_below m js)
+  where
+    go : (task : Task) → AreBelow n (record j { task = task } ∷ js) → ((m : ℕ) → AreBelow m js → AreBelow m (map job_in_line js)) → AreBelow n (job_in_line (record j { task = task }) ∷ map job_in_line js)
+    go (Put number start bytes asked level place) h rest = (h.0, rest _ h.1)
+    go (Compare offset bytes level) h rest = (h.0, rest _ h.1)
+    go (Fetch offset count) h rest = (h.0, rest _ h.1)
+    go Settle h rest = (h.0, rest _ h.1)
+
+unmap_below : (n : ℕ) (js : List Job) → AreBelow n (map job_in_line js) → AreBelow n js
+unmap_below n [] h = tt
+unmap_below n (j ∷ js) h = go j.task h (λ m. unmap_below m js)
+  where
+    go : (task : Task) → AreBelow n (job_in_line (record j { task = task }) ∷ map job_in_line js) → ((m : ℕ) → AreBelow m (map job_in_line js) → AreBelow m js) → AreBelow n (record j { task = task } ∷ js)
+    go (Put number start bytes asked level place) h rest = (h.0, rest _ h.1)
+    go (Compare offset bytes level) h rest = (h.0, rest _ h.1)
+    go (Fetch offset count) h rest = (h.0, rest _ h.1)
+    go Settle h rest = (h.0, rest _ h.1)
+
 -- files
 
 -- the comparisons of the jobs that were issued and not given up
@@ -67,7 +89,10 @@ Compares f = AreBelow (length f.base) (f.done ++ (f.held.line ++ f.held.ready))
 
 moved_compares : (l : JobLists) (f : File) → Moved f.held.line f.held.ready l → Compares f → Compares (with_held f (with_lists l f.held))
 unfolding Moved
-moved_compares l f moved is = subst (λ js. AreBelow (length f.base) (f.done ++ js)) (sym moved.0) is
+moved_compares l f moved is =
+    let n = length f.base in
+    let sent = map_below _ (f.held.line ++ f.held.ready) (below_rest n f.done (f.held.line ++ f.held.ready) is) in
+    below_append n f.done (l.line ++ l.ready) (below_front n f.done (f.held.line ++ f.held.ready) is) (unmap_below _ (l.line ++ l.ready) (subst (λ js. AreBelow (n + length (joined_bytes (pieces_of f.done))) js) (sym moved.0) sent))
 
 sent_compares : (limits : Limits) (f : File) → Compares f → Compares (with_held f (with_ready_sent limits f.held))
 unfolding with_ready_sent

@@ -8,6 +8,7 @@ use Rattle.gw_model.specs.File.{File, Step, Side, Seen, Job, side_of, seen_of, g
 use Rattle.gw_model.specs.Admission.{stale_step, hearing_step, hearing_step_in, with_hull_to_top, pump_lists, pump_rest, sent_lists, task_front, Plain, with_held, with_ready_sent, with_answers_before, silent_step, pump_result, pump_step_with}
 use Rattle.gw_model.specs.Ending.{give_up_step}
 use Rattle.gw_model.specs.Sides.{IsSideOf, IsNumberedFrom, HasSideStep, GiveUpLaw, entry_lost_above, entries_lost_above, seen_without_pending, side_give_up_step, entry_lost_with, entries_lost_with, struck_jobs, StaleLaw, side_stale_step, side_with_hull_to_top, side_hearing_step, side_hearing_step_in, HasNoPlaces, PumpLaw, OpenLaw, side_pump_step}
+use Rattle.gw_model.proofs.Keeping.{place_gone}
 use Rattle.gw_model.proofs.Fold.{fold_let_go, low, put_all_low, standing_low, IsRising}
 use Rattle.gw_model.proofs.Sides.{side_is, seen_is}
 
@@ -130,7 +131,7 @@ pump_sends slots line (j ∷ js) t none =
     let go : (b : Bool) → nat_lt (length line) slots ≡ b → pump_lists slots line (j ∷ js) t ≡ pump_rest (sent_lists slots line (j ∷ js)).line (sent_lists slots line (j ∷ js)).ready t = elim [
       | true ↦ λ e.
           let open_slot : nat_le slots (length line) ≡ false = grind (arith, nat_tests) in
-          rw (open_slot, plain, e, on) (pump_sends slots (line ++ j ∷ []) js t none.1)
+          rw (open_slot, plain, e, on, place_gone j none.0) (pump_sends slots (line ++ j ∷ []) js t none.1)
       | false ↦ λ e. let full : nat_le slots (length line) ≡ true = grind (arith, nat_tests) in rw (full, e) refl
     ] in
     go (nat_lt (length line) slots) refl

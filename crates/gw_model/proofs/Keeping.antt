@@ -2,15 +2,16 @@
 use Rattle.std.proofs.Common.{Option, ◌≡◌, ℕ, ◌+◌, ◌-◌, Bool, true, false, not, cond, List, [], ◌∷◌, ◌++◌, map, length, drop, None, Some, nat_le, nat_lt, refl, sym, ◌∙◌, ap, append-nil, append_assoc, arith}
 use Rattle.std.specs.Prelude.{min, ◌^◌, ◌==◌, ◌&&◌, if◌then◌else◌, is_some}
 use Rattle.std.specs.List.{filter}
+use Rattle.std.proofs.lemmas.List.{map-append}
 use Rattle.gw_model.specs.Bounds.{max_waiting}
 use Rattle.gw_model.specs.declared.Stable.{Stable}
 use Rattle.gw_model.specs.declared.Stable.TheVariants.{Unstable}
 use Rattle.gw_model.specs.Order.{Accepted, Piece, walk, pieces, reach, ordered_writes, standing_writes, piece_at, with_write, with_writes}
 use Rattle.gw_model.specs.Ahead.{Outcomes, CallResult, Good, Bad, is_refused, next_call}
 use Rattle.gw_model.specs.declared.limits.Limits.{Limits}
-use Rattle.gw_model.specs.File.{Task, Put, Settle, Fetch, Compare, Job, File, side_of, is_spilled, is_fetch, is_stale, Cause, Failure, Phase, Live, Stale, Append, Spill, ready_weight, opened_file}
+use Rattle.gw_model.specs.File.{place_of, Task, Put, Settle, Fetch, Compare, Job, File, side_of, is_spilled, is_fetch, is_stale, Cause, Failure, Phase, Live, Stale, Append, Spill, ready_weight, opened_file}
 use Rattle.gw_model.specs.declared.Hull.{Hull}
-use Rattle.gw_model.specs.Admission.{WriteRequest, write_step, write_step_if, write_step_by, WriteJudgement, Barred, Busy, Compared, Again, Taken, write_judgement, with_accepted, with_use, with_ready_sent, sent_lists, with_lists, JobLists, with_held, stale_step, writes_with_place, writes_with_ticket, Repeat, Differs, Unanswered, Answered, Takes, repeat_of, repeat_step, repeat_step_by, repeat_step_if, repeat_step_read, repeat_step_at, write_from, with_jobs, job, CommitJudgement, CommitBarred, CommitBusy, Waits, Settles, CommitRequest, ReadRequest, commit_step, commit_step_if, commit_step_by, commit_judgement, read_step, read_step_if, SpillJudgement, Leaves, Moves, spill_judgement, spill_step, spill_step_if, spill_step_by, spill_call_step, with_placed_end, PumpFront, Full, Plain, Loads, pump_front, PumpStop, Rests, Breaks, PumpWalk, pump_lists, pump_one, load_step, load_done, load_kept, pump_end, pump_step_with, hearing_step, hearing_step_in, with_hull_to_top}
+use Rattle.gw_model.specs.Admission.{task_in_line, job_in_line, WriteRequest, write_step, write_step_if, write_step_by, WriteJudgement, Barred, Busy, Compared, Again, Taken, write_judgement, with_accepted, with_use, with_ready_sent, sent_lists, with_lists, JobLists, with_held, stale_step, writes_with_place, writes_with_ticket, Repeat, Differs, Unanswered, Answered, Takes, repeat_of, repeat_step, repeat_step_by, repeat_step_if, repeat_step_read, repeat_step_at, write_from, with_jobs, job, CommitJudgement, CommitBarred, CommitBusy, Waits, Settles, CommitRequest, ReadRequest, commit_step, commit_step_if, commit_step_by, commit_judgement, read_step, read_step_if, SpillJudgement, Leaves, Moves, spill_judgement, spill_step, spill_step_if, spill_step_by, spill_call_step, with_placed_end, PumpFront, Full, Plain, Loads, pump_front, PumpStop, Rests, Breaks, PumpWalk, pump_lists, pump_one, load_step, load_done, load_kept, pump_end, pump_step_with, hearing_step, hearing_step_in, with_hull_to_top}
 use Rattle.gw_model.specs.Writer.{turn_step, turn_step_in, turn_step_if, sync_step}
 use Rattle.gw_model.specs.Ending.{give_up_step}
 use Rattle.gw_model.specs.Sound.{plain_piece, pieces_of, piece_of, IsIssued}
@@ -138,9 +139,46 @@ no_front : (xs ys : List Piece) → xs ++ ys ≡ [] → ys ≡ []
 no_front [] ys e = e
 no_front (x ∷ xs) ys e = absurd (cc e)
 
--- jobs that are sent stay in order
+-- a job in the line appends what it did before
+
+piece_in_line : (task : Task) → piece_of (task_in_line task) ≡ piece_of task
+piece_in_line (Put number start bytes asked level place) = refl
+piece_in_line (Compare offset bytes level) = refl
+piece_in_line (Fetch offset count) = refl
+piece_in_line Settle = refl
+
+pieces_in_line : (js : List Job) → pieces_of (map job_in_line js) ≡ pieces_of js
+pieces_in_line [] = refl
+pieces_in_line (j ∷ js) = ap (λ ps. ps ++ pieces_of (map job_in_line js)) (piece_in_line j.task) ∙ ap (λ ps. piece_of j.task ++ ps) (pieces_in_line js)
+
+pub place_gone : (j : Job) → place_of j.task ≡ None → job_in_line j ≡ j
+place_gone j e = go j.task e
+  where
+    go : (task : Task) → place_of task ≡ None → record j { task = task_in_line task } ≡ record j { task = task }
+    go (Put number start bytes asked level place) e = ap (λ p. let k : Job = record j { task = Put number start bytes asked level p } in k) (sym e)
+    go (Compare offset bytes level) e = refl
+    go (Fetch offset count) e = refl
+    go Settle e = refl
+
+in_line_twice : (j : Job) → job_in_line (job_in_line j) ≡ job_in_line j
+in_line_twice j = place_gone (job_in_line j) (go j.task)
+  where
+    go : (task : Task) → place_of (task_in_line task) ≡ None
+    go (Put number start bytes asked level place) = refl
+    go (Compare offset bytes level) = refl
+    go (Fetch offset count) = refl
+    go Settle = refl
+
+-- jobs that are sent stay in order, and lose their places
 unfoldable pub Moved : List Job → List Job → JobLists → Type 0
-Moved line ready l = (l.line ++ l.ready ≡ line ++ ready) × (pieces_of ready ≡ [] → pieces_of l.ready ≡ [])
+Moved line ready l = (map job_in_line (l.line ++ l.ready) ≡ map job_in_line (line ++ ready)) × (pieces_of ready ≡ [] → pieces_of l.ready ≡ [])
+
+-- one more job in the line, as it was or without its place
+one_moved : (line : List Job) (j : Job) (js : List Job) → map job_in_line ((line ++ job_in_line j ∷ []) ++ js) ≡ map job_in_line (line ++ j ∷ js)
+one_moved line j js = ap (map job_in_line) (append_assoc line (job_in_line j ∷ []) js)
+    ∙ map-append job_in_line line (job_in_line j ∷ js)
+    ∙ ap (λ k. map job_in_line line ++ k ∷ map job_in_line js) (in_line_twice j)
+    ∙ sym (map-append job_in_line line (j ∷ js))
 
 pub send_moves : (slots : ℕ) (line ready : List Job) → Moved line ready (sent_lists slots line ready)
 unfolding Moved
@@ -148,16 +186,24 @@ send_moves slots line [] = (refl, λ e. e)
 send_moves slots line (j ∷ js) = go (nat_lt (length line) slots && not (is_spilled j)) (send_moves slots (line ++ j ∷ []) js)
   where
     go : (b : Bool) → Moved (line ++ j ∷ []) js (sent_lists slots (line ++ j ∷ []) js) → Moved line (j ∷ js) (if b then sent_lists slots (line ++ j ∷ []) js else record { line = line; ready = j ∷ js })
-    go true rest = (rest.0 ∙ append_assoc line (j ∷ []) js, λ e. rest.1 (no_front (piece_of j.task) (pieces_of js) e))
+    go true rest = (rest.0 ∙ ap (map job_in_line) (append_assoc line (j ∷ []) js), λ e. rest.1 (no_front (piece_of j.task) (pieces_of js) e))
     go false rest = (refl, λ e. e)
 
 moved_issues : (l : JobLists) (f : File) → Moved f.held.line f.held.ready l → IsIssued f → IsIssued (with_held f (with_lists l f.held))
 unfolding Moved
 moved_issues l f moved is = record {
-  order = ap (λ js. pieces_of (f.done ++ js)) (sym (append_assoc l.line l.ready f.struck) ∙ ap (λ js. js ++ f.struck) moved.0 ∙ append_assoc f.held.line f.held.ready f.struck) ∙ is.order;
+  order = ap (λ js. pieces_of (f.done ++ js)) (sym (append_assoc l.line l.ready f.struck))
+      ∙ around (l.line ++ l.ready)
+      ∙ ap (λ ps. pieces_of f.done ++ (ps ++ pieces_of f.struck)) (sym (pieces_in_line (l.line ++ l.ready)) ∙ ap pieces_of moved.0 ∙ pieces_in_line (f.held.line ++ f.held.ready))
+      ∙ sym (around (f.held.line ++ f.held.ready))
+      ∙ ap (λ js. pieces_of (f.done ++ js)) (append_assoc f.held.line f.held.ready f.struck)
+      ∙ is.order;
   fresh = is.fresh;
   none_left = λ stale. moved.1 (is.none_left stale);
 }
+  where
+    around : (js : List Job) → pieces_of (f.done ++ (js ++ f.struck)) ≡ pieces_of f.done ++ (pieces_of js ++ pieces_of f.struck)
+    around js = pieces_of-append f.done (js ++ f.struck) ∙ ap (λ ps. pieces_of f.done ++ ps) (pieces_of-append js f.struck)
 
 sent_issues : (limits : Limits) (f : File) → IsIssued f → IsIssued (with_held f (with_ready_sent limits f.held))
 unfolding with_ready_sent
@@ -320,7 +366,7 @@ pump_one_moves (Loads number start) line ready t go moves = by (is_refused t)
 pub pump_moves : (slots : ℕ) (line ready : List Job) (t : Outcomes) → Moved line ready (pump_lists slots line ready t).lists
 unfolding Moves_on Moved
 pump_moves slots line [] t = (refl, λ e. e)
-pump_moves slots line (j ∷ js) t = pump_one_moves (pump_front slots line j) line (j ∷ js) t (λ u. pump_lists slots (line ++ j ∷ []) js u) (λ u. let rest = pump_moves slots (line ++ j ∷ []) js u in (rest.0 ∙ append_assoc line (j ∷ []) js, λ e. rest.1 (no_front (piece_of j.task) (pieces_of js) e)))
+pump_moves slots line (j ∷ js) t = pump_one_moves (pump_front slots line j) line (j ∷ js) t (λ u. pump_lists slots (line ++ job_in_line j ∷ []) js u) (λ u. let rest = pump_moves slots (line ++ job_in_line j ∷ []) js u in (rest.0 ∙ one_moved line j js, λ e. rest.1 (no_front (piece_of j.task) (pieces_of js) e)))
 
 joined_issues : (low : ℕ) (f : File) → IsIssued f → IsIssued (with_hull_to_top low f)
 joined_issues low f is = record { order = is.order; fresh = is.fresh; none_left = is.none_left }

@@ -384,9 +384,19 @@ pump_one Full line ready t go = pump_rest line ready t
 pump_one Plain line ready t go = go t
 pump_one (Loads number start) line ready t go = load_step (is_refused t) number start line ready t go
 
+abbrev pub task_in_line : Task → Task
+task_in_line (Put number start bytes asked level place) = Put number start bytes asked level None
+task_in_line (Compare offset bytes level) = Compare offset bytes level
+task_in_line (Fetch offset count) = Fetch offset count
+task_in_line Settle = Settle
+
+-- the job as it stands in the line: a Put's bytes were loaded, and it has no place
+abbrev pub job_in_line : Job → Job
+job_in_line j = record j { task = task_in_line j.task }
+
 abbrev pub pump_lists : ℕ → List Job → List Job → Outcomes → PumpWalk
 pump_lists slots line [] t = pump_rest line [] t
-pump_lists slots line (j ∷ js) t = pump_one (pump_front slots line j) line (j ∷ js) t (λ u. pump_lists slots (line ++ j ∷ []) js u)
+pump_lists slots line (j ∷ js) t = pump_one (pump_front slots line j) line (j ∷ js) t (λ u. pump_lists slots (line ++ job_in_line j ∷ []) js u)
 
 abbrev pub with_fetches_sent : Limits → Step → Step
 with_fetches_sent limits s = record s { file = with_held s.file (with_ready_sent limits s.file.held) }
