@@ -187,15 +187,15 @@ again_by_compares Takes limits f q entry t is = used_compares limits q.moment (r
 
 again_at_compares : (b : Bool) (limits : Limits) (f : File) (q : WriteRequest) (entry : Accepted) (t : Outcomes) → Compares f → Compares (repeat_step_at b limits f q entry t).file
 again_at_compares false limits f q entry t is = again_by_compares (repeat_of q entry) limits f q entry t is
-again_at_compares true limits f q entry t is = go (next_call t).called (next_call t).ahead
+again_at_compares true limits f q entry t is = go (next_call t).called (is_refused (next_call t).ahead) (next_call t).ahead
   where
     by : (b : Bool) (u : Outcomes) → Compares (repeat_step_if b limits f q entry u).file
     by true u = is
     by false u = again_by_compares (repeat_of q entry) limits f q entry u is
 
-    go : (c : CallResult) (u : Outcomes) → Compares (repeat_step_read c limits f q entry u).file
-    go (Bad n) u = used_compares limits q.moment f is
-    go Good u = by (is_refused u) u
+    go : (c : CallResult) (b : Bool) (u : Outcomes) → Compares (repeat_step_read c b limits f q entry u).file
+    go (Bad n) b u = used_compares limits q.moment f is
+    go Good b u = by b u
 
 accept_compares : (moment : ℕ) (f : File) (w : Accepted) → Compares f → Compares (with_accepted moment f w)
 unfolding with_accepted

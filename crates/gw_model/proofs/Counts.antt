@@ -1,5 +1,5 @@
 -- How many calls a list of outcomes tells of, and how many of them failed.
-use Rattle.std.proofs.Common.{◌+◌, ◌≡◌, ℕ, List, [], ◌∷◌, ◌++◌, map, length, refl, arith}
+use Rattle.std.proofs.Common.{◌+◌, ◌≡◌, List, [], ◌∷◌, ◌++◌, map, length, refl, arith}
 use Rattle.gw_model.specs.Ahead.{Outcome, Done, Failed, Listed, NoMemory, CallResult, Good, Bad, outcome_of, call_count, failure_count, failures_among}
 
 pub call_count-append : (a b : List Outcome) → call_count (a ++ b) ≡ call_count a + call_count b

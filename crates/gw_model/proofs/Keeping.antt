@@ -238,15 +238,15 @@ again_issues limits f q entry t is = again_by_issues (repeat_of q entry) limits 
 
 again_at_issues : (b : Bool) (limits : Limits) (f : File) (q : WriteRequest) (entry : Accepted) (t : Outcomes) → IsIssued f → IsIssued (repeat_step_at b limits f q entry t).file
 again_at_issues false limits f q entry t is = again_issues limits f q entry t is
-again_at_issues true limits f q entry t is = go (next_call t).called (next_call t).ahead
+again_at_issues true limits f q entry t is = go (next_call t).called (is_refused (next_call t).ahead) (next_call t).ahead
   where
     by : (b : Bool) (u : Outcomes) → IsIssued (repeat_step_if b limits f q entry u).file
     by true u = is
     by false u = again_issues limits f q entry u is
 
-    go : (c : CallResult) (u : Outcomes) → IsIssued (repeat_step_read c limits f q entry u).file
-    go (Bad n) u = used_issues limits q.moment f is
-    go Good u = by (is_refused u) u
+    go : (c : CallResult) (b : Bool) (u : Outcomes) → IsIssued (repeat_step_read c b limits f q entry u).file
+    go (Bad n) b u = used_issues limits q.moment f is
+    go Good b u = by b u
 
 write_by_issues : (v : WriteJudgement) (limits : Limits) (f : File) (q : WriteRequest) (t : Outcomes) → is_stale f.held.phase ≡ false → IsIssued f → IsIssued (write_step_by v limits f q t).file
 write_by_issues Barred limits f q t live is = is

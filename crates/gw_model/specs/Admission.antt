@@ -1,5 +1,5 @@
 -- The admission side of an open file: WRITE, COMMIT, READ, the spill step and the pump.
-use Rattle.std.specs.Prelude.{ℕ, ◌+◌, ◌-◌, ◌/◌, ◌^◌, max, min, Bool, true, false, not, ◌&&◌, ◌||◌, List, [], ◌∷◌, ◌++◌, map, length, drop, Option, Some, None, is_none, is_some, nat_lt, nat_le, ◌==◌, if◌then◌else◌}
+use Rattle.std.specs.Prelude.{ℕ, ◌+◌, ◌-◌, ◌/◌, max, min, Bool, true, false, not, ◌&&◌, ◌||◌, List, [], ◌∷◌, ◌++◌, map, length, drop, Option, Some, None, is_none, is_some, nat_lt, nat_le, ◌==◌, if◌then◌else◌}
 use Rattle.std.specs.List.{filter, flat_map}
 use Rattle.std.specs.Str.{bytes_eq}
 use Rattle.gw_model.specs.declared.Stable.{Stable}
@@ -200,13 +200,14 @@ abbrev pub repeat_step_if : Bool → Limits → File → WriteRequest → Accept
 repeat_step_if true limits f q entry t = no_memory_step f q.ticket t
 repeat_step_if false limits f q entry t = repeat_step limits f q entry t
 
-abbrev pub repeat_step_read : CallResult → Limits → File → WriteRequest → Accepted → Outcomes → Step
-repeat_step_read (Bad kept_write) limits f q entry t = answer_step (with_held f (with_use limits q.moment f.held)) q.ticket (NotWritten io) t
-repeat_step_read Good limits f q entry t = repeat_step_if (is_refused t) limits f q entry t
+-- by what the read did, and whether memory is refused then
+abbrev pub repeat_step_read : CallResult → Bool → Limits → File → WriteRequest → Accepted → Outcomes → Step
+repeat_step_read (Bad kept) refusal limits f q entry t = answer_step (with_held f (with_use limits q.moment f.held)) q.ticket (NotWritten io) t
+repeat_step_read Good refusal limits f q entry t = repeat_step_if refusal limits f q entry t
 
 -- by whether the entry is on the device
 abbrev pub repeat_step_at : Bool → Limits → File → WriteRequest → Accepted → Outcomes → Step
-repeat_step_at true limits f q entry t = repeat_step_read (next_call t).called limits f q entry (next_call t).ahead
+repeat_step_at true limits f q entry t = repeat_step_read (next_call t).called (is_refused (next_call t).ahead) limits f q entry (next_call t).ahead
 repeat_step_at false limits f q entry t = repeat_step limits f q entry t
 
 -- whether the request is answered when it is accepted
@@ -372,7 +373,7 @@ load_kept false line ready t go = go t
 
 abbrev pub load_done : CallResult → ℕ → ℕ → List Job → List Job → Outcomes → (Outcomes → PumpWalk) → PumpWalk
 load_done Good number start line ready t go = load_kept (is_refused t) line ready t go
-load_done (Bad kept_write) number start line ready t go = record { lists = record { line = line; ready = ready }; ahead = t; stop = Breaks number start }
+load_done (Bad kept) number start line ready t go = record { lists = record { line = line; ready = ready }; ahead = t; stop = Breaks number start }
 
 -- a load, by whether memory is refused before it
 abbrev pub load_step : Bool → ℕ → ℕ → List Job → List Job → Outcomes → (Outcomes → PumpWalk) → PumpWalk
