@@ -1,7 +1,8 @@
 // Calls on the file, each with the note of its outcome.
 ghost use Rattle.std.specs.Prelude.{◌≡◌, ◌-◌, ◌<◌, ◌≤◌, ◌++◌, [], ◌∷◌, length, min, take, IfOk, IfErr};
 ghost use Rattle.append_store.specs.Calls.{part_at};
-ghost use Rattle.writeback.specs.Steps.{append_call, plain_call, added, with_calls, Leaves};
+ghost use Rattle.writeback.specs.State.{file_seen};
+ghost use Rattle.writeback.specs.Steps.{append_call, plain_call, kept_bytes, with_calls, Leaves};
 
 use append_store::{AppendFault, AppendFile, StoreFault};
 use gw_model::{Outcome, Trace};
@@ -15,9 +16,9 @@ pub fn append<F: AppendFile>(
     requires { 0 < trace.old.room }
     ensures kept { IfErr result (λ e. e.kept ≤ length bytes.now) }
     ensures notes { trace.new ≡ with_calls (append_call result ∷ []) trace.old }
-    ensures file { Leaves F.tells (added (append_call result) bytes.now) (append_call result ∷ [])
-        (record { object = F.mark file.old; content = F.content file.old; durable = F.durable file.old; faults = F.count file.old })
-        (record { object = F.mark file.new; content = F.content file.new; durable = F.durable file.new; faults = F.count file.new }) }
+    ensures file { Leaves F.tells (kept_bytes (append_call result) bytes.now) (append_call result ∷ [])
+        (file_seen F.mark F.content F.durable F.count F.tally file.old)
+        (file_seen F.mark F.content F.durable F.count F.tally file.new) }
 {
     match file.append(bytes) {
         Ok(()) => {
@@ -43,8 +44,8 @@ pub fn read_at<F: AppendFile>(
     ensures bytes { IfOk result (λ n. F.tells → take n out.new ≡ part_at (F.content file.old) offset n) }
     ensures notes { trace.new ≡ with_calls (plain_call result ∷ []) trace.old }
     ensures file { Leaves F.tells [] (plain_call result ∷ [])
-        (record { object = F.mark file.old; content = F.content file.old; durable = F.durable file.old; faults = F.count file.old })
-        (record { object = F.mark file.new; content = F.content file.new; durable = F.durable file.new; faults = F.count file.new }) }
+        (file_seen F.mark F.content F.durable F.count F.tally file.old)
+        (file_seen F.mark F.content F.durable F.count F.tally file.new) }
 {
     match file.read_at(offset, out) {
         Ok(count) => {
@@ -64,8 +65,8 @@ pub fn hsync<F: AppendFile>(file: &mut F, trace: &mut Trace) -> Result<(), Store
     ensures done { IfOk result (λ _. F.tells → F.durable file.new ≡ length (F.content file.new)) }
     ensures notes { trace.new ≡ with_calls (plain_call result ∷ []) trace.old }
     ensures file { Leaves F.tells [] (plain_call result ∷ [])
-        (record { object = F.mark file.old; content = F.content file.old; durable = F.durable file.old; faults = F.count file.old })
-        (record { object = F.mark file.new; content = F.content file.new; durable = F.durable file.new; faults = F.count file.new }) }
+        (file_seen F.mark F.content F.durable F.count F.tally file.old)
+        (file_seen F.mark F.content F.durable F.count F.tally file.new) }
 {
     match file.hsync() {
         Ok(()) => {

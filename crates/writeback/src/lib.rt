@@ -2,7 +2,6 @@
 //! after it.
 #![tactic(auto)]
 
-mod answers;
 mod calls;
 mod owed;
 mod writer;

@@ -1,7 +1,7 @@
 ghost use Rattle.std.specs.Prelude.{◌≡◌, ◌<◌, ◌≤◌, [], length, true};
 ghost use Rattle.append_store.specs.State.{Missing};
 ghost use Rattle.job_line.specs.Items.{put_size};
-ghost use Rattle.writeback.specs.Answers.{size_of};
+ghost use Rattle.job_line.specs.Views.{data_size};
 
 use super::*;
 use append_store::{AppendFile, Cluster, MemCluster, Planned};
@@ -36,7 +36,7 @@ fn fails_at(call: u64) -> Planned {
 
 fn put(text: &'static [u8], stable: Stable, ticket: Ticket) -> Job
     requires { length text.now ≤ 100 }
-    ensures few { size_of result ≤ 100 }
+    ensures few { data_size result ≤ 100 }
     ensures fits { put_size result ≤ 100 }
 {
     Job::Put {
@@ -50,7 +50,7 @@ fn put(text: &'static [u8], stable: Stable, ticket: Ticket) -> Job
 
 fn compare(offset: u64, text: &'static [u8], ticket: Ticket) -> Job
     requires { length text.now ≤ 100 }
-    ensures few { size_of result ≤ 100 }
+    ensures few { data_size result ≤ 100 }
     ensures fits { put_size result ≤ 100 }
 {
     Job::Compare {
@@ -64,7 +64,7 @@ fn compare(offset: u64, text: &'static [u8], ticket: Ticket) -> Job
 // What a turn answers, where there is room and no answer is left.
 fn turned<F: AppendFile>(writer: &mut Writer<F>, job: Job, trace: &mut Trace) -> Option<Body>
     requires left { writer.old.left ≡ [] }
-    requires few { size_of job ≤ 100 }
+    requires few { data_size job ≤ 100 }
     requires fits { put_size job ≤ 100 }
     ensures left { writer.new.left ≡ [] }
 {

@@ -2,36 +2,39 @@
 ghost use Rattle.std.specs.Prelude.{◌≡◌, ℕ, ◌+◌, ◌-◌, ◌<◌, ◌≤◌, ◌∷◌, ◌++◌, ◌^◌, [], IfOk, IfErr, None, drop, length, min, nat_le, nat_lt, slice_get};
 ghost use Rattle.std.specs.Option.{option_map};
 ghost use Rattle.std.specs.VecDeque.{deque_len, deque_capacity};
-ghost use Rattle.gw_model.specs.Ahead.{Ahead, Good, Bad};
+ghost use Rattle.gw_model.specs.Ahead.{Outcomes, Good, Bad};
 ghost use Rattle.gw_model.specs.Admission.{is_unstable};
-ghost use Rattle.gw_model.specs.Views.{Noted};
-ghost use Rattle.gw_model.specs.Writer.{told, written, range_of, sync_writer};
+ghost use Rattle.gw_model.specs.Views.{TraceState};
+ghost use Rattle.gw_model.specs.Writer.{writer_step, store_step, range_of, writer_sync_step};
 ghost use Rattle.job_line.specs.declared.items.Job.TheVariants.{Put as PutJob, Compare as CompareJob, Fetch as FetchJob, Settle as SettleJob};
 ghost use Rattle.job_line.specs.Items.{put_size};
-ghost use Rattle.writeback.specs.Answers.{answer_of, answers_of, size_of, IsPlain, ArePlain};
-ghost use Rattle.writeback.specs.State.{fresh, failure_of, owed_answer, with_all};
+ghost use Rattle.job_line.specs.Views.{data_size, ticket_number};
+ghost use Rattle.tickets.specs.Answers.{answer_of, answers_of, IsPlain, ArePlain};
+ghost use Rattle.gw_model.specs.Bounds.{end_limit, max_transfer, max_waiting};
+ghost use Rattle.writeback.specs.State.{file_seen, fresh_seen, append_failure, owed_answer, with_fate, with_waiting};
 ghost use Rattle.writeback.specs.declared.owed.Fate.TheVariants.{Removed};
-ghost use Rattle.writeback.specs.Steps.{Works, Puts, IsFound, IsSame, Leaves, Gives, IsDurable, before, compare_call, fate_after, found_body, plain_call, sync_call, synced_by, with_calls};
+ghost use Rattle.writeback.specs.Steps.{Works, Puts, IsAnswered, IsRangeFound, IsSame, Leaves, AnswersLater, IsDurable, with_calls_ahead, compare_call, fate_after, found_body, plain_call, sync_call, writer_after_sync, with_calls};
 
-use crate::answers::{
-    INVAL, IO, committed, gave, no_memory, not_given, not_written, settled, wrote,
-};
 use crate::calls;
 use crate::owed::{Failed, Fate, Owed, Synced};
 use append_store::{AppendFile, StoreFault};
 use bytes::Bytes;
-use gw_model::{Stable, Trace};
+use gw_model::status::{NFS3ERR_INVAL, NFS3ERR_IO};
+use gw_model::{MAX_TRANSFER, MAX_WAITING, Stable, Trace};
 use job_line::Job;
 use std::alloc::Global;
 use std::collections::VecDeque;
 use std::marker::Model;
 use tickets::{Answer, Ticket};
 
-/// The tickets that may wait for a sync.
-const ROOM: usize = 1024;
-
-/// The greatest number of bytes of a write.
-const MOST: usize = 1_048_576;
+/// How an append went.
+#[derive(Clone, Copy, Debug, PartialEq, Eq)]
+pub enum Appended {
+    /// All bytes are stored.
+    Whole,
+    /// It failed now, or an earlier one had failed.
+    Failed,
+}
 
 /// How a comparison went.
 #[derive(Clone, Copy, Debug, PartialEq, Eq)]
@@ -67,17 +70,19 @@ pub struct Writer<F: AppendFile> {
 impl<F: AppendFile> Model for Writer<F> {
     ghost use Rattle.std.specs.Prelude.{◌≡◌, ◌≤◌, vec_len};
     ghost use Rattle.std.specs.VecDeque.{deque_capacity};
-    ghost use Rattle.writeback.specs.State.{WriterState, state_with};
+    ghost use Rattle.gw_model.specs.Bounds.{max_transfer, max_waiting};
+    ghost use Rattle.writeback.specs.State.{WriterSeen, file_seen, writer_seen};
 
-    ghost Value = { WriterState };
+    ghost Value = { WriterSeen };
 
-    ghost view = { λ w. state_with w.stored w.synced w.failed w.fate w.owed.items (record { object = F.mark w.file; content = F.content w.file; durable = F.durable w.file; faults = F.count w.file }) };
+    ghost view = { λ w. writer_seen w.stored w.synced w.failed w.fate w.owed.items
+        (file_seen F.mark F.content F.durable F.count F.tally w.file) };
 
-    ghost invariant = { λ w. (1024 ≤ deque_capacity w.owed) × (vec_len w.buffer ≡ 1048576) };
+    ghost invariant = { λ w. (max_waiting ≤ deque_capacity w.owed) × (vec_len w.buffer ≡ max_transfer) };
 }
 
 // Adds to those that wait, where there is room.
-fn keep(owed: &mut VecDeque<Owed>, next: Owed)
+fn push_waiting(owed: &mut VecDeque<Owed>, next: Owed)
     requires { deque_len owed.old < deque_capacity owed.old }
     ensures items { owed.new.items ≡ owed.old.items ++ next ∷ [] }
     ensures capacity { deque_capacity owed.new ≡ deque_capacity owed.old }
@@ -101,8 +106,8 @@ fn compare_in<F: AppendFile>(
     ensures compared { IsSame F.tells bytes.now (range_of offset (length bytes.now) (F.content file.old)) result }
     ensures notes { trace.new ≡ with_calls (compare_call result ∷ []) trace.old }
     ensures file { Leaves F.tells [] (compare_call result ∷ [])
-        (record { object = F.mark file.old; content = F.content file.old; durable = F.durable file.old; faults = F.count file.old })
-        (record { object = F.mark file.new; content = F.content file.new; durable = F.durable file.new; faults = F.count file.new }) }
+        (file_seen F.mark F.content F.durable F.count F.tally file.old)
+        (file_seen F.mark F.content F.durable F.count F.tally file.new) }
 {
     let there = &mut buffer[..bytes.len()];
     match calls::read_at(file, offset, there, trace) {
@@ -128,9 +133,9 @@ fn answer_found(alloc: Global, found: Found, eof: bool, ticket: Ticket) -> Answe
     ensures plain { IsPlain result.body }
 {
     match found {
-        Found::Bytes(bytes) => gave(ticket, eof, bytes),
-        Found::ReadFault => not_given(alloc, ticket, IO),
-        Found::NoMemory => no_memory(ticket),
+        Found::Bytes(bytes) => Answer::gave(ticket, bytes, eof),
+        Found::ReadFault => Answer::not_given(alloc, ticket, NFS3ERR_IO),
+        Found::NoMemory => Answer::no_memory(ticket),
     }
 }
 
@@ -138,14 +143,15 @@ impl<F: AppendFile> Writer<F> {
     /// The writer of a file. Takes memory: room for 1,024 tickets, and for 1,048,576 bytes to compare. Hands the file back
     /// where it is refused.
     pub fn new(alloc: Global, file: F) -> Result<Writer<F>, F>
-        ensures ok { IfOk result (λ w. w ≡ record { writer = fresh (length (F.content file)); left = []; file = record { object = F.mark file; content = F.content file; durable = F.durable file; faults = F.count file } }) }
+        ensures ok { IfOk result (λ w. w ≡ fresh_seen (file_seen F.mark F.content F.durable F.count F.tally file)) }
+        ensures low { IfOk result (λ w. w.writer.stored < end_limit) }
         ensures err { IfErr result (λ back. back ≡ file) }
     {
-        let Ok(owed) = VecDeque::with_capacity(alloc, ROOM) else {
+        let Ok(owed) = VecDeque::with_capacity(alloc, MAX_WAITING) else {
             return Err(file);
         };
         let mut buffer = Vec::new(alloc);
-        if buffer.resize(MOST, 0).is_err() {
+        if buffer.resize(MAX_TRANSFER as usize, 0).is_err() {
             return Err(file);
         }
         let stored = file.len();
@@ -173,14 +179,14 @@ impl<F: AppendFile> Writer<F> {
 
     /// Whether fewer than 1,024 tickets wait for a sync.
     pub fn room(&self) -> bool
-        ensures { result ≡ nat_lt (length self.now.writer.owed) 1024 }
+        ensures { result ≡ nat_lt (length self.now.writer.owed) max_waiting }
     {
-        self.waiting() < ROOM
+        self.waiting() < MAX_WAITING
     }
 
     /// What failed, where an append failed. Nothing is appended any more then.
     pub fn failed(&self) -> Option<Failed>
-        ensures { option_map failure_of result ≡ self.now.writer.failed }
+        ensures { option_map append_failure result ≡ self.now.writer.failed }
     {
         self.failed
     }
@@ -200,13 +206,13 @@ impl<F: AppendFile> Writer<F> {
     }
 
     // Adds to those that wait for a sync.
-    fn owe(&mut self, next: Owed)
-        requires room { length self.old.writer.owed < 1024 }
+    fn await_sync(&mut self, next: Owed)
+        requires room { length self.old.writer.owed < max_waiting }
         requires none_left { self.old.left ≡ [] }
-        ensures { self.new ≡ record self.old { writer = record self.old.writer { owed = self.old.writer.owed ++ owed_answer next ∷ [] } } }
+        ensures { self.new ≡ with_waiting (owed_answer next) self.old }
     {
         self.fate = None;
-        keep(&mut self.owed, next);
+        push_waiting(&mut self.owed, next);
     }
 
     // The write of a job is stored: an UNSTABLE one is answered, another one waits for a sync.
@@ -216,18 +222,19 @@ impl<F: AppendFile> Writer<F> {
         count: u32,
         stable: Stable,
     ) -> Option<Answer>
-        requires room { length self.old.writer.owed < 1024 }
+        requires room { length self.old.writer.owed < max_waiting }
         requires none_left { self.old.left ≡ [] }
-        ensures step { (t : Ahead) → written (is_unstable stable) (option_map (λ x. x.number) ticket) count stable self.old.writer t ≡ told self.new.writer (answers_of result) t }
+        ensures step { IsAnswered (ticket_number ticket) count stable self.old.writer self.new.writer (answers_of result) }
         ensures rest { self.new ≡ record self.old { writer = self.new.writer } }
         ensures stored { self.new.writer.stored ≡ self.old.writer.stored }
+        ensures failed { self.new.writer.failed ≡ self.old.writer.failed }
         ensures plain { ArePlain result }
     {
         let ticket = ticket?;
         if stable == Stable::Unstable {
-            return Some(wrote(ticket, count, stable));
+            return Some(Answer::wrote(ticket, count, stable));
         }
-        self.owe(Owed::Write {
+        self.await_sync(Owed::Write {
             ticket,
             count,
             stable,
@@ -235,22 +242,22 @@ impl<F: AppendFile> Writer<F> {
         None
     }
 
-    // Appends bytes, perhaps none. Says whether it was done: not after an append failed.
-    fn append(&mut self, bytes: &[u8], trace: &mut Trace) -> bool
+    // Appends bytes, perhaps none; not after an append failed.
+    fn append(&mut self, bytes: &[u8], trace: &mut Trace) -> Appended
         requires noted { 0 < trace.old.room }
         requires fits { self.old.writer.failed ≡ None → self.old.writer.stored + length bytes.now < 2 ^ 64 }
         ensures { Puts F.tells bytes.now result self.old self.new trace.old trace.new }
     {
         if self.failed.is_some() {
-            return false;
+            return Appended::Failed;
         }
         if bytes.is_empty() {
-            return true;
+            return Appended::Whole;
         }
         match calls::append(&mut self.file, bytes, trace) {
             Ok(()) => {
                 self.stored += bytes.len() as u64;
-                true
+                Appended::Whole
             }
             Err(fault) => {
                 self.stored += fault.kept;
@@ -258,7 +265,7 @@ impl<F: AppendFile> Writer<F> {
                     stored: self.stored,
                     kept: fault.kept,
                 });
-                false
+                Appended::Failed
             }
         }
     }
@@ -272,23 +279,23 @@ impl<F: AppendFile> Writer<F> {
         ticket: Option<Ticket>,
         trace: &mut Trace,
     ) -> Option<Answer>
-        requires room { length self.old.writer.owed < 1024 }
+        requires room { length self.old.writer.owed < max_waiting }
         requires none_left { self.old.left ≡ [] }
         requires fits { self.old.writer.failed ≡ None → self.old.writer.stored + length bytes.now < 2 ^ 64 }
         requires noted { 0 < trace.old.room }
-        ensures works { (number : ℕ) → Works F.tells (PutJob number bytes.now stable count ticket) (answers_of result) self.old self.new trace.old trace.new }
+        ensures works { (number : ℕ) → Works F.tells (PutJob number bytes.now stable count ticket) (answers_of result)
+            self.old self.new trace.old trace.new }
         ensures plain { ArePlain result }
     {
-        if self.append(bytes.as_slice(), trace) {
-            return self.answer_written(ticket, count, stable);
+        match self.append(bytes.as_slice(), trace) {
+            Appended::Whole => self.answer_written(ticket, count, stable),
+            Appended::Failed => Some(Answer::not_written(ticket?, NFS3ERR_IO)),
         }
-        let ticket = ticket?;
-        Some(not_written(ticket, IO))
     }
 
     // Compares what the file has with bytes, at most 1,048,576.
     fn compare_with(&mut self, offset: u64, bytes: &[u8], trace: &mut Trace) -> Compared
-        requires few { length bytes.now ≤ 1048576 }
+        requires few { length bytes.now ≤ max_transfer }
         requires noted { 0 < trace.old.room }
         ensures same { self.new ≡ record self.old { file = self.new.file } }
         ensures compared { IsSame F.tells bytes.now (range_of offset (length bytes.now) self.old.file.content) result }
@@ -307,41 +314,42 @@ impl<F: AppendFile> Writer<F> {
         ticket: Ticket,
         trace: &mut Trace,
     ) -> Option<Answer>
-        requires room { length self.old.writer.owed < 1024 }
+        requires room { length self.old.writer.owed < max_waiting }
         requires none_left { self.old.left ≡ [] }
-        requires few { length bytes.now ≤ 1048576 }
+        requires few { length bytes.now ≤ max_transfer }
         requires noted { 0 < trace.old.room }
-        ensures works { Works F.tells (CompareJob offset bytes.now stable ticket) (answers_of result) self.old self.new trace.old trace.new }
+        ensures works { Works F.tells (CompareJob offset bytes.now stable ticket) (answers_of result)
+            self.old self.new trace.old trace.new }
         ensures plain { ArePlain result }
     {
         if self.failed.is_some() {
-            return Some(not_written(ticket, IO));
+            return Some(Answer::not_written(ticket, NFS3ERR_IO));
         }
         match self.compare_with(offset, bytes.as_slice(), trace) {
             Compared::Same => self.answer_written(Some(ticket), bytes.len() as u32, stable),
-            Compared::Differs => Some(not_written(ticket, INVAL)),
-            Compared::ReadFault => Some(not_written(ticket, IO)),
+            Compared::Differs => Some(Answer::not_written(ticket, NFS3ERR_INVAL)),
+            Compared::ReadFault => Some(Answer::not_written(ticket, NFS3ERR_IO)),
         }
     }
 
     // Does a Settle.
     fn settle(&mut self, ticket: Ticket) -> Option<Answer>
-        requires room { length self.old.writer.owed < 1024 }
+        requires room { length self.old.writer.owed < max_waiting }
         requires none_left { self.old.left ≡ [] }
-        ensures works { (noted : Noted) → Works F.tells (SettleJob ticket) (answers_of result) self.old self.new noted noted }
+        ensures works { (noted : TraceState) → Works F.tells (SettleJob ticket) (answers_of result) self.old self.new noted noted }
         ensures plain { ArePlain result }
     {
         if self.failed.is_some() {
-            return Some(committed(ticket, IO));
+            return Some(Answer::not_committed(ticket, NFS3ERR_IO));
         }
-        self.owe(Owed::Commit { ticket });
+        self.await_sync(Owed::Commit { ticket });
         None
     }
 
     // Reads `count` bytes, or as many as the file has from `offset` on. For none nothing is called. Takes memory.
     fn read_range(&mut self, offset: u64, count: usize, trace: &mut Trace) -> Found
         requires noted { 0 < trace.old.room }
-        ensures { IsFound F.tells offset count result self.old self.new trace.old trace.new }
+        ensures { IsRangeFound F.tells offset count result self.old self.new trace.old trace.new }
     {
         let mut bytes = Vec::new(self.alloc);
         if bytes.resize(count, 0).is_err() {
@@ -396,9 +404,9 @@ impl<F: AppendFile> Writer<F> {
     /// It is called where there is room for a ticket, where no answer of a sync is left, and where the trace has room for a
     /// note. A job brings at most 1,048,576 bytes, and what it appends keeps the stored length a `u64`.
     pub fn turn(&mut self, job: Job, trace: &mut Trace) -> Option<Answer>
-        requires room { length self.old.writer.owed < 1024 }
+        requires room { length self.old.writer.owed < max_waiting }
         requires none_left { self.old.left ≡ [] }
-        requires few { size_of job ≤ 1048576 }
+        requires few { data_size job ≤ max_transfer }
         requires fits { self.old.writer.failed ≡ None → self.old.writer.stored + put_size job < 2 ^ 64 }
         requires noted { 0 < trace.old.room }
         ensures works { Works F.tells job (answers_of result) self.old self.new trace.old trace.new }
@@ -429,7 +437,7 @@ impl<F: AppendFile> Writer<F> {
 
     // All that wait are answered so, by `next_answer`, and wait no more.
     fn give_up(&mut self, fate: Fate)
-        ensures { self.new ≡ with_all fate self.old }
+        ensures { self.new ≡ with_fate fate self.old }
     {
         if self.fate.is_none() {
             self.fate = Some(fate);
@@ -439,7 +447,7 @@ impl<F: AppendFile> Writer<F> {
     // Calls hsync.
     fn sync_file(&mut self, trace: &mut Trace) -> Synced
         requires noted { 0 < trace.old.room }
-        ensures new { self.new ≡ record self.old { writer = synced_by result self.old.writer; file = self.new.file } }
+        ensures new { self.new ≡ record self.old { writer = writer_after_sync result self.old.writer; file = self.new.file } }
         ensures notes { trace.new ≡ with_calls (sync_call result ∷ []) trace.old }
         ensures file { Leaves F.tells [] (sync_call result ∷ []) self.old.file self.new.file }
         ensures durable { IsDurable F.tells result self.new.file }
@@ -458,7 +466,8 @@ impl<F: AppendFile> Writer<F> {
     /// working then. The trace has room for a note. Takes no memory.
     pub fn sync(&mut self, trace: &mut Trace) -> Synced
         requires noted { 0 < trace.old.room }
-        ensures step { (t : Ahead) → Gives (sync_writer self.old.writer (before (sync_call result ∷ []) t)) self.old self.new t }
+        ensures step { (t : Outcomes) → AnswersLater (writer_sync_step self.old.writer (with_calls_ahead (sync_call result ∷ []) t))
+            self.old self.new t }
         ensures notes { trace.new ≡ with_calls (sync_call result ∷ []) trace.old }
         ensures file { Leaves F.tells [] (sync_call result ∷ []) self.old.file self.new.file }
         ensures durable { IsDurable F.tells result self.new.file }
@@ -471,12 +480,12 @@ impl<F: AppendFile> Writer<F> {
     /// The file is removed: those that wait are answered `NFS3ERR_STALE`, in order, by `next_answer`. Takes no
     /// memory, and makes no call on the file.
     pub fn remove(&mut self)
-        ensures { self.new ≡ with_all Removed self.old }
+        ensures { self.new ≡ with_fate Removed self.old }
     {
         self.give_up(Fate::Removed);
     }
 
-    /// The next answer of a sync or of a removal, or none where none is left.
+    /// The next answer of a sync or of a removal, or none where none is left. Takes no memory.
     pub fn next_answer(&mut self) -> Option<Answer>
         ensures first { option_map answer_of result ≡ slice_get self.old.left 0 }
         ensures rest { self.new ≡ record self.old { left = drop 1 self.old.left } }
@@ -484,13 +493,13 @@ impl<F: AppendFile> Writer<F> {
     {
         let fate = self.fate?;
         let next = self.owed.pop_front()?;
-        Some(settled(next, fate))
+        Some(next.answered(fate))
     }
 
     /// Gives the file back, without a call on it. The tickets that still wait for a sync are dropped.
     pub fn into_file(self) -> F
         requires none_left { self.left ≡ [] }
-        ensures { record { object = F.mark result; content = F.content result; durable = F.durable result; faults = F.count result } ≡ self.file }
+        ensures { file_seen F.mark F.content F.durable F.count F.tally result ≡ self.file }
     {
         let Writer {
             file,
@@ -506,12 +515,14 @@ impl<F: AppendFile> Writer<F> {
     }
 
     /// Makes the whole file durable, by one call of hsync, and gives it back. Where that fails the writer stays as it is.
+    /// Takes no memory.
     pub fn finish(self, trace: &mut Trace) -> Result<F, (Writer<F>, StoreFault)>
         requires none_waits { self.writer.owed ≡ [] }
         requires none_left { self.left ≡ [] }
         requires noted { 0 < trace.old.room }
         ensures done { IfOk result (λ file. F.tells → F.durable file ≡ length (F.content file)) }
-        ensures file { IfOk result (λ file. Leaves F.tells [] (Good ∷ []) self.file (record { object = F.mark file; content = F.content file; durable = F.durable file; faults = F.count file })) }
+        ensures file { IfOk result (λ file. Leaves F.tells [] (Good ∷ []) self.file
+            (file_seen F.mark F.content F.durable F.count F.tally file)) }
         ensures err { IfErr result (λ back. back.0 ≡ record self { file = back.0.file }) }
         ensures err_file { IfErr result (λ back. Leaves F.tells [] (Bad 0 ∷ []) self.file back.0.file) }
         ensures notes { trace.new ≡ with_calls (plain_call result ∷ []) trace.old }
