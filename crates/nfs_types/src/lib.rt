@@ -5,12 +5,12 @@ mod attr;
 mod file_type;
 mod laws;
 mod set;
-pub mod status;
 mod text;
 mod time;
 
 pub use attr::{Attr, Device, read_attr, read_device};
 pub use file_type::{FileType, read_type};
+pub use gw_model::status;
 pub use laws::{attr_law, set_law, time_law};
 pub use set::{SetAttr, read_set};
 pub use text::attr_text;

@@ -5,3 +5,4 @@ pub mod Answers
 pub mod Loops
 pub mod Heads
 pub mod Bounds
+pub mod RowLengths

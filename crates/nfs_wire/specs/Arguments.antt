@@ -1,5 +1,6 @@
 -- The arguments of each procedure (RFC 1813 sections 3.3 and 5.2): the row of each, and how it is read.
 use Rattle.std.specs.Prelude.{ℕ, ◌==◌, if◌then◌else◌, List, [], ◌∷◌, ◌++◌, Option, Result, Ok}
+use Rattle.gw_model.specs.Bounds.{max_transfer}
 use Rattle.gw_model.specs.declared.Stable.{Stable}
 use Rattle.gw_model.specs.declared.Stable.TheVariants.{Unstable, DataSync, FileSync}
 use Rattle.xdr.specs.declared.fault.XdrFault.{XdrFault}
@@ -11,7 +12,7 @@ use Rattle.xdr.specs.Rows.{Item, Word, Long, Fixed, Opaque, option_row}
 use Rattle.xdr.specs.Forms.{◌>>=◌, ◌&◌, map_at, constant_at, option_at, arm_at, union_at}
 use Rattle.nfs_types.specs.Types.{time_row, time_at, set_row, set_at, device_row, device_at}
 use Rattle.nfs_wire.specs.Programs.{nfs_program, mount_program}
-use Rattle.nfs_wire.specs.Bounds.{longest_handle, longest_name, longest_path, most_data}
+use Rattle.nfs_wire.specs.Bounds.{longest_handle, longest_name, longest_path}
 use Rattle.nfs_wire.specs.declared.args.Args.{Args}
 use Rattle.nfs_wire.specs.declared.args.Args.TheVariants as args
 use Rattle.nfs_wire.specs.declared.args.DirOp.{DirOp}
@@ -111,7 +112,7 @@ args_row (args.Lookup place) = dir_op_row place
 args_row (args.Access handle mask) = handle_item handle ∷ Word mask ∷ []
 args_row (args.Readlink handle) = handle_row handle
 args_row (args.Read handle offset count) = handle_item handle ∷ Long offset ∷ Word count ∷ []
-args_row (args.Write handle offset count level bytes) = handle_item handle ∷ Long offset ∷ Word count ∷ Word (stable_number level) ∷ Opaque most_data bytes ∷ []
+args_row (args.Write handle offset count level bytes) = handle_item handle ∷ Long offset ∷ Word count ∷ Word (stable_number level) ∷ Opaque max_transfer bytes ∷ []
 args_row (args.Create place how) = dir_op_row place ++ how_row how
 args_row (args.Mkdir place set) = dir_op_row place ++ set_row set
 args_row (args.Symlink place set path) = dir_op_row place ++ (set_row set ++ path_row path)
@@ -189,7 +190,7 @@ abbrev pub write_arguments : List ℕ × (ℕ × (ℕ × (Stable × List ℕ))) 
 write_arguments p = args.Write p.0 p.1.0 p.1.1.0 p.1.1.1.0 p.1.1.1.1
 
 abbrev pub data_at : Cursor → Reading (List ℕ)
-data_at = opaque_at most_data
+data_at = opaque_at max_transfer
 
 unfoldable pub write_at : Cursor → Reading Args
 write_at = map_at write_arguments (handle_at & u64_at & u32_at & stable_at & data_at)

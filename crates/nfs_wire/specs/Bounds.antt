@@ -1,5 +1,6 @@
--- How long the parts of arguments may be, in bytes.
+-- How long the parts of arguments may be, in bytes. The data of a WRITE has at most `max_transfer`.
 use Rattle.std.specs.Prelude.{ℕ, ◌≤◌, List, length}
+use Rattle.gw_model.specs.Bounds.{max_transfer}
 use Rattle.nfs_wire.specs.declared.args.Args.{Args}
 use Rattle.nfs_wire.specs.declared.args.Args.TheVariants as args
 use Rattle.nfs_wire.specs.declared.args.DirOp.{DirOp}
@@ -15,10 +16,6 @@ longest_name = 4096
 -- a path (MNTPATHLEN of RFC 1813 section 5.1.1)
 abbrev pub longest_path : ℕ
 longest_path = 1024
-
--- the data of a WRITE
-abbrev pub most_data : ℕ
-most_data = 1048576
 
 abbrev pub IsHandleWithin : List ℕ → Type 0
 IsHandleWithin handle = length handle ≤ longest_handle
@@ -38,7 +35,7 @@ IsWithin (args.Lookup place) = IsPlaceWithin place
 IsWithin (args.Access handle mask) = IsHandleWithin handle
 IsWithin (args.Readlink handle) = IsHandleWithin handle
 IsWithin (args.Read handle offset count) = IsHandleWithin handle
-IsWithin (args.Write handle offset count level bytes) = IsHandleWithin handle × (length bytes ≤ most_data)
+IsWithin (args.Write handle offset count level bytes) = IsHandleWithin handle × (length bytes ≤ max_transfer)
 IsWithin (args.Create place how) = IsPlaceWithin place
 IsWithin (args.Mkdir place set) = IsPlaceWithin place
 IsWithin (args.Symlink place set path) = IsPlaceWithin place × IsPathWithin path

@@ -4,6 +4,7 @@ pub mod Programs
 pub mod Bounds
 pub mod Arguments
 pub mod Results
+pub mod Lengths
 pub mod Views
 pub mod Short
 pub mod Heads

@@ -13,7 +13,8 @@ use Rattle.nfs_wire.specs.declared.res.FsStat.{FsStat}
 use Rattle.nfs_wire.specs.declared.res.FsInfo.{FsInfo}
 use Rattle.nfs_wire.specs.declared.res.PathConf.{PathConf}
 use Rattle.nfs_wire.specs.Programs.{nfs_program, mount_program}
-use Rattle.nfs_wire.specs.Arguments.{handle_item, handle_at}
+use Rattle.nfs_wire.specs.declared.args.Args.{Args}
+use Rattle.nfs_wire.specs.Arguments.{handle_item, handle_at, procedure_of}
 use Rattle.xdr.specs.Lists.{list_row, list_at, behind_word, nothing_at, zeros_row, zeros_at}
 
 -- an entry of a directory
@@ -317,6 +318,10 @@ results_at prog proc bytes = do
 abbrev pub zeros_in : List (ℕ × ResultForm) → ℕ → Option ℕ
 zeros_in [] proc = None
 zeros_in (a ∷ answers) proc = if proc == a.0 then a.1.refused else zeros_in answers proc
+
+-- how many stand behind a failing status of the procedure that has these arguments
+abbrev pub zeros_of : Args → Option ℕ
+zeros_of a = zeros_in (forms_of (procedure_of a).0) (procedure_of a).1
 
 -- the procedure whose results these are, where they aren't refused
 abbrev pub procedure_of_results : Results → Option (ℕ × ℕ)

@@ -9,7 +9,7 @@ ghost use Rattle.nfs_wire.specs.Places.{StandsIn};
 
 use crate::{ArgsFault, DirOp};
 use bytes::Bytes;
-use gw_model::Stable;
+use gw_model::{MAX_TRANSFER, Stable};
 use nfs_types::{Device, SetAttr, Time, read_device, read_set, read_time};
 use std::alloc::Global;
 use std::marker::Model;
@@ -27,8 +27,6 @@ const LONGEST_HANDLE: u32 = 64;
 const LONGEST_NAME: u32 = 4096;
 
 const LONGEST_PATH: u32 = 1024;
-
-const MOST_DATA: u32 = 1_048_576;
 
 impl<'a> Model for Items<'a> {
     ghost use Rattle.xdr.specs.Reading.{Cursor};
@@ -114,7 +112,7 @@ impl<'a> Items<'a> {
     {
         let _length = message.len();
         let place = self.reader.place();
-        let len = self.reader.take_opaque(MOST_DATA)?.len();
+        let len = self.reader.take_opaque(MAX_TRANSFER)?.len();
         let first = place + 4;
         Ok(message.slice(first..first + len)?)
     }

@@ -2,6 +2,7 @@
 //! results are written for replies.
 #![tactic(auto)]
 
+mod absent;
 mod args;
 mod by_handle;
 mod by_name;
@@ -10,6 +11,7 @@ mod fault;
 mod head;
 mod items;
 mod laws;
+pub mod lengths;
 mod listing;
 mod making;
 pub mod program;
@@ -21,6 +23,7 @@ mod reading;
 mod res;
 mod writing;
 
+pub use absent::{absent_words, refusal};
 pub use args::{Args, CreateHow, DirOp, NodeKind};
 pub use fault::ArgsFault;
 pub use head::{Head, body_head};

@@ -55,8 +55,8 @@ impl Assembler {
         ensures ok { IfOk result (λ count. feed_result self.old piece.now ≡ (Ok count, self.new)) }
         ensures fault { IfErr result (λ fault. fault ≢ FrameFault.Memory → feed_result self.old piece.now ≡ (Err fault, self.new)) }
         ensures memory { result ≡ Err FrameFault.Memory → self.new ≡ self.old }
-    ensures sound { result ≡ Err FrameFault.Memory → self.old.fault ≡ None
-        → (fault : FrameFault) → front (self.old.held ++ piece.now) ≢ Fault fault }
+        ensures sound { result ≡ Err FrameFault.Memory → self.old.fault ≡ None
+            → (fault : FrameFault) → front (self.old.held ++ piece.now) ≢ Fault fault }
         ensures broken { (fault : FrameFault) → self.old.fault ≡ Some fault → result ≡ Err fault }
         ensures within { IfOk result (λ count. count ≤ length piece.now) }
     {

@@ -69,7 +69,7 @@ pub fixed_spells : (v : List ℕ) → SpellsFixed (fixed_text v) v
 unfolding fixed_text
 fixed_spells v = record { padding = replicate (pad_len (length v)) 0; padded = length-replicate (pad_len (length v)) 0; text = refl }
 
-fixed_length : (v : List ℕ) → length (fixed_text v) ≡ length v + pad_len (length v)
+pub fixed_length : (v : List ℕ) → length (fixed_text v) ≡ length v + pad_len (length v)
 unfolding fixed_text
 fixed_length v = length-append v (replicate (pad_len (length v)) 0) ∙ ap (λ (k : ℕ). length v + k) (length-replicate (pad_len (length v)) 0)
 
@@ -115,7 +115,7 @@ unfolding opaque_text
 opaque_spells v h =
     record { count = word (length v); counted = word_spells (length v) h; padding = replicate (pad_len (length v)) 0; padded = length-replicate (pad_len (length v)) 0; text = append_assoc (word (length v)) v (replicate (pad_len (length v)) 0) }
 
-opaque_length : (v : List ℕ) → length (opaque_text v) ≡ 4 + length v + pad_len (length v)
+pub opaque_length : (v : List ℕ) → length (opaque_text v) ≡ 4 + length v + pad_len (length v)
 unfolding opaque_text word
 opaque_length v = omega (arith, length-append (word (length v) ++ v) (replicate (pad_len (length v)) 0), length-append (word (length v)) v, length-replicate {A = ℕ} (pad_len (length v)) 0)
 

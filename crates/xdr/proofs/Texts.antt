@@ -1,8 +1,9 @@
 -- What is written for a row spells it.
-use Rattle.std.proofs.Common.{◌≡◌, ℕ, List, [], ◌∷◌, ◌++◌, refl, sym, ap, ◌∙◌, append_assoc, append-nil}
+use Rattle.std.proofs.Common.{◌≡◌, ℕ, ◌+◌, List, [], ◌∷◌, ◌++◌, length, refl, sym, ap, ◌∙◌, append_assoc, append-nil, length-append, arith}
+use Rattle.xdr.specs.Items.{word, long}
 use Rattle.xdr.proofs.Numbers.{word_spells, long_spells}
-use Rattle.xdr.proofs.Opaques.{fixed_spells, opaque_spells}
-use Rattle.xdr.specs.Rows.{Item, Word, Long, Fixed, Opaque, SpellsItem, Spells, item_text, joined_text, text, Fits, AllFit, IsBounded, AllBounded}
+use Rattle.xdr.proofs.Opaques.{fixed_spells, fixed_length, opaque_spells, opaque_length}
+use Rattle.xdr.specs.Rows.{Item, Word, Long, Fixed, Opaque, SpellsItem, Spells, item_text, joined_text, text, Fits, AllFit, item_length, row_length, IsBounded, AllBounded}
 
 pub written-text : (done : List ℕ) (row : List Item) → joined_text done row ≡ done ++ text row
 written-text done [] = sym (append-nil done)
@@ -44,3 +45,16 @@ spells_bounded bytes (item ∷ row) s = (item_bounded s.0 item s.3, spells_bound
 pub bounded_rest : (xs ys : List Item) → AllBounded (xs ++ ys) → AllBounded ys
 bounded_rest [] ys b = b
 bounded_rest (item ∷ xs) ys b = bounded_rest xs ys b.1
+
+-- how many bytes are written
+length-item_text : (item : Item) → length (item_text item) ≡ item_length item
+unfolding word long
+length-item_text (Word n) = refl
+length-item_text (Long n) = refl
+length-item_text (Fixed len v) = fixed_length v
+length-item_text (Opaque most v) = omega (arith, opaque_length v)
+
+pub length-text : (row : List Item) → length (text row) ≡ row_length row
+length-text [] = refl
+length-text (item ∷ row) =
+    ap length (text-cons item row) ∙ length-append (item_text item) (text row) ∙ ap (λ (k : ℕ). k + length (text row)) (length-item_text item) ∙ ap (λ (k : ℕ). item_length item + k) (length-text row)

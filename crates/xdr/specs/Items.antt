@@ -1,5 +1,5 @@
 -- The items of a message as bytes (RFC 4506): what is written for each value, and which bytes spell it.
-use Rattle.std.specs.Prelude.{◌≡◌, ℕ, ◌-◌, ◌%◌, Bool, if◌then◌else◌, List, ◌++◌, length, replicate}
+use Rattle.std.specs.Prelude.{◌≡◌, ℕ, ◌+◌, ◌-◌, ◌%◌, Bool, if◌then◌else◌, List, ◌++◌, length, replicate}
 use Rattle.std.specs.Int.{w32, w64, to_be_bytes, from_be_bytes}
 
 -- an unsigned integer of 32 bits: four bytes, the highest first (RFC 4506 section 4.2)
@@ -13,6 +13,10 @@ long n = to_be_bytes w64 n
 -- how many bytes of padding lead from n bytes to a multiple of four
 abbrev pub pad_len : ℕ → ℕ
 pad_len n = (4 - n % 4) % 4
+
+-- n bytes with their padding
+abbrev pub padded_length : ℕ → ℕ
+padded_length n = n + pad_len n
 
 -- a boolean: the word 0 or 1 (RFC 4506 section 4.4)
 unfoldable pub bool_text : Bool → List ℕ

@@ -1,6 +1,6 @@
 -- A value as a row of items (RFC 4506): which bytes spell it, and what is written for it.
-use Rattle.std.specs.Prelude.{◌≡◌, ℕ, ◌≤◌, ◌<◌, ◌^◌, Bool, if◌then◌else◌, List, [], ◌∷◌, ◌++◌, length, Option, Some, None}
-use Rattle.xdr.specs.Items.{word, long, fixed_text, opaque_text, SpellsU32, SpellsU64, SpellsFixed, SpellsOpaque}
+use Rattle.std.specs.Prelude.{◌≡◌, ℕ, ◌+◌, ◌≤◌, ◌<◌, ◌^◌, Bool, if◌then◌else◌, List, [], ◌∷◌, ◌++◌, length, Option, Some, None}
+use Rattle.xdr.specs.Items.{padded_length, word, long, fixed_text, opaque_text, SpellsU32, SpellsU64, SpellsFixed, SpellsOpaque}
 
 pub data Item : Type 0 where
   -- a number of 32 bits, and one of 64 bits
@@ -48,6 +48,17 @@ Fits (Opaque most v) = (length v ≤ most) × (length v < 2 ^ 32)
 abbrev pub AllFit : List Item → Type 0
 AllFit [] = Unit {0}
 AllFit (item ∷ row) = Fits item × AllFit row
+
+-- how many bytes are written for an item, and for a row
+abbrev pub item_length : Item → ℕ
+item_length (Word n) = 4
+item_length (Long n) = 8
+item_length (Fixed len v) = padded_length (length v)
+item_length (Opaque most v) = 4 + padded_length (length v)
+
+abbrev pub row_length : List Item → ℕ
+row_length [] = 0
+row_length (item ∷ row) = item_length item + row_length row
 
 -- an item whose bytes are no more than its reader takes
 abbrev pub IsBounded : Item → Type 0

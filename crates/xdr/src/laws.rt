@@ -3,7 +3,7 @@
 ghost use Rattle.std.specs.Prelude.{◌≡◌, ◌↔◌, ◌+◌, ◌<◌, ◌≤◌, ◌^◌, ◌++◌, ◌∷◌, ℕ, Bool, List, [], length, All, Ok, Err};
 ghost use Rattle.xdr.specs.declared.fault.XdrFault.{XdrFault};
 ghost use Rattle.xdr.specs.Items.{word, long, pad_len, bool_text, fixed_text, opaque_text, SpellsU32, SpellsU64, SpellsBool, SpellsFixed, SpellsOpaque};
-ghost use Rattle.xdr.specs.Rows.{Item, Spells, text, AllFit, AllBounded};
+ghost use Rattle.xdr.specs.Rows.{Item, Spells, text, AllFit, AllBounded, row_length};
 ghost use Rattle.xdr.specs.Reading.{Cursor, Takes, u32_at, u64_at, bool_at, fixed_at, opaque_at, finish_at};
 
 /// A number of 32 bits is read from exactly its spellings; the written word spells it, and is read
@@ -62,8 +62,10 @@ pub fn finish_law()
     ensures exact { (c : Cursor) → (finish_at c ≡ Ok tt) ↔ (c.left ≡ []) }
 {}
 
-/// What is written for a row spells it, and bytes spell only a row whose items are within their bounds.
+/// What is written for a row spells it, and has so many bytes; bytes spell only a row whose items are within their
+/// bounds.
 pub fn row_law()
     ensures written { (row : List Item) → AllFit row → Spells (text row) row }
+    ensures length { (row : List Item) → length (text row) ≡ row_length row }
     ensures bounded { (bytes : List ℕ) (row : List Item) → Spells bytes row → AllBounded row }
 {}

@@ -9,6 +9,7 @@ mod writer;
 
 pub use fault::{NoMemory, XdrFault};
 pub use laws::{bool_law, finish_law, fixed_law, opaque_law, row_law, u32_law, u64_law};
+pub use padding::padded_length;
 pub use reader::Reader;
 pub use writer::Writer;
 
