@@ -1,4 +1,4 @@
--- A message is read as a call exactly where it spells it.
+-- A message is read as a call exactly where it is one by its values behind one another.
 use Rattle.std.proofs.Common.{inl, inr, ◌≡◌, ℕ, zero, suc, ◌+◌, ◌≤◌, Bool, true, false, cond, ◌==◌, nat_lt, List, [], ◌∷◌, ◌++◌, length, refl, sym, ap, ◌∙◌, subst, arith, Result, Ok, Err}
 use Rattle.std.proofs.lemmas.Bool.{le-ltb}
 use Rattle.std.proofs.lemmas.Bool.Decides.{nat_tests}
@@ -11,7 +11,7 @@ use Rattle.xdr.proofs.Opaques.{opaque_forth, opaque_back, finish_forth, finish_b
 use Rattle.rpc_msg.specs.declared.fault.CallFault.{CallFault}
 use Rattle.rpc_msg.specs.declared.fault.CallFault.TheVariants.{NotCall, RpcMismatch, RejectedCred, Short}
 use Rattle.rpc_msg.specs.Calls.{◌>>=◌, SenderText, CallText, nobody, words_at, groups_at, system_sender, or_bad_cred, sender_of, or_short, call_word_at, or_auth, call_opaque_at, call_body_at, call_of}
-use Rattle.rpc_msg.specs.Spellings.{Then, SpellsWords, AtEnd, SpellsSystem, SpellsSender, SpellsParts, SpellsCall}
+use Rattle.rpc_msg.proofs.Chains.{Then, SpellsWords, AtEnd, ChainSystem, ChainSender, ChainParts, ChainCall}
 
 -- a chain that was done: its first step was done, and so was the rest
 record Step {A B E : Type 0} (r : Result A E) (f : A → Result B E) (y : B) : Type 0 where
@@ -109,7 +109,7 @@ few_of n fault r y e = go (nat_lt 16 n) refl e where
 abbrev sender : ℕ → ℕ → List ℕ → List ℕ → SenderText
 sender uid gid gids host = record { uid = uid; gid = gid; gids = gids; host = host }
 
-pub system_forth : (body : List ℕ) (s : SenderText) → system_sender body ≡ Ok s → SpellsSystem body s
+pub system_forth : (body : List ℕ) (s : SenderText) → system_sender body ≡ Ok s → ChainSystem body s
 unfolding system_sender groups_at
 system_forth body s e =
     let stamp = step (u32_at (start body)) _ _ e in
@@ -125,7 +125,7 @@ system_forth body s e =
     let tail = words.1 AtEnd ended in
     let h = opaque_forth 255 stamp.value.1 host.value.1 host.value.0 host.first in
     let same : record { uid = uid.value.0; gid = gid.value.0; gids = gids.value.0; host = host.value.0 } ≡ s = (done false (xdr.Short 0) (sender uid.value.0 gid.value.0 gids.value.0 host.value.0) s end.then_on).1 in
-    subst (λ (k : SenderText). SpellsSystem body k) same (
+    subst (λ (k : SenderText). ChainSystem body k) same (
       h.0,
       subst (λ (k : ℕ). k ≤ 16) (sym words.0) few.0,
       (
@@ -153,7 +153,7 @@ groups_back ws c Follows few t =
     let read : cond (nat_lt 16 (length ws)) (Err (xdr.TooLong c.place)) (words_at (length ws) c1) ≡ Ok (ws, rest.to) = rw (le-ltb 16 (length ws) few) rest.read in
     record { to = rest.to; read = chain (u32_at c) _ (length ws, c1) (ws, rest.to) (u32_there c (length ws) t.0 t.1 t.2 t.3) read; follows = rest.follows }
 
-pub system_back : (body : List ℕ) (s : SenderText) → SpellsSystem body s → system_sender body ≡ Ok s
+pub system_back : (body : List ℕ) (s : SenderText) → ChainSystem body s → system_sender body ≡ Ok s
 unfolding system_sender
 system_back body s h =
     let c0 = start body in
@@ -186,15 +186,15 @@ is_number m n e = grind (arith, nat_tests)
 number_is : (m n : ℕ) → m ≡ n → (m == n) ≡ true
 number_is m n e = grind (arith, nat_tests)
 
-sender_forth : (id flavor : ℕ) (body : List ℕ) (s : SenderText) → sender_of id flavor body ≡ Ok s → SpellsSender flavor body s
+sender_forth : (id flavor : ℕ) (body : List ℕ) (s : SenderText) → sender_of id flavor body ≡ Ok s → ChainSender flavor body s
 unfolding sender_of
 sender_forth id flavor body s e = go (flavor == 0) refl (flavor == 1) refl e where
-  go : (a : Bool) → (flavor == 0) ≡ a → (b : Bool) → (flavor == 1) ≡ b → cond a (Ok nobody) (cond b (or_bad_cred id (system_sender body)) (Err (RejectedCred id))) ≡ Ok s → SpellsSender flavor body s
+  go : (a : Bool) → (flavor == 0) ≡ a → (b : Bool) → (flavor == 1) ≡ b → cond a (Ok nobody) (cond b (or_bad_cred id (system_sender body)) (Err (RejectedCred id))) ≡ Ok s → ChainSender flavor body s
   go true p b q h = inl (is_number flavor 0 p, sym (done_call nobody s Short h))
   go false p true q h = inr (is_number flavor 1 q, system_forth body s (bad_forth id (system_sender body) s h))
   go false p false q h = cc
 
-sender_back : (id flavor : ℕ) (body : List ℕ) (s : SenderText) → SpellsSender flavor body s → sender_of id flavor body ≡ Ok s
+sender_back : (id flavor : ℕ) (body : List ℕ) (s : SenderText) → ChainSender flavor body s → sender_of id flavor body ≡ Ok s
 unfolding sender_of
 sender_back id flavor body s (inl h) = rw (number_is flavor 0 h.0) (ap (λ (k : SenderText). Ok k) (sym h.1))
 sender_back id flavor body s (inr h) = rw (h.0, system_back body s h.1) refl
@@ -208,8 +208,8 @@ record Parted (id : ℕ) (c : Cursor) (call : CallText) : Type 0 where
   verf : List ℕ
   short_cred : length cred ≤ 400
   short_verf : length verf ≤ 400
-  sender_is : SpellsSender flavor cred call.sender
-  text : SpellsParts call flavor cred kind verf c.left
+  sender_is : ChainSender flavor cred call.sender
+  text : ChainParts call flavor cred kind verf c.left
 
 abbrev made : ℕ → ℕ → ℕ → ℕ → SenderText → List ℕ → CallText
 made id prog vers proc_no s args = record { xid = id; prog = prog; vers = vers; proc_no = proc_no; sender = s; args = args }
@@ -292,7 +292,7 @@ version_forth id n c d e = go (n == 2) refl e where
   go true p h = (is_number n 2 p, done_call c d Short h)
   go false p h = cc
 
-called_parts : (bytes : List ℕ) (id kind vers : ℕ) (c1 c2 c3 : Cursor) (call : CallText) → call_word_at (start bytes) ≡ Ok (id, c1) → call_word_at c1 ≡ Ok (kind, c2) → kind ≡ 0 → call_word_at c2 ≡ Ok (vers, c3) → vers ≡ 2 → Parted id c3 call → SpellsCall bytes call
+called_parts : (bytes : List ℕ) (id kind vers : ℕ) (c1 c2 c3 : Cursor) (call : CallText) → call_word_at (start bytes) ≡ Ok (id, c1) → call_word_at c1 ≡ Ok (kind, c2) → kind ≡ 0 → call_word_at c2 ≡ Ok (vers, c3) → vers ≡ 2 → Parted id c3 call → ChainCall bytes call
 called_parts bytes id kind vers c1 c2 c3 call e1 e2 k e3 v p =
     record {
       flavor = p.flavor;
@@ -305,9 +305,9 @@ called_parts bytes id kind vers c1 c2 c3 call e1 e2 k e3 v p =
       text = then_forth SpellsU32 call.xid _ (start bytes) c1 (subst (λ (n : ℕ). Takes SpellsU32 (start bytes) n c1) p.xid (part_forth (start bytes) (id, c1) e1)) (then_forth SpellsU32 0 _ c1 c2 (subst (λ (n : ℕ). Takes SpellsU32 c1 n c2) k (part_forth c1 (kind, c2) e2)) (then_forth SpellsU32 2 _ c2 c3 (subst (λ (n : ℕ). Takes SpellsU32 c2 n c3) v (part_forth c2 (vers, c3) e3)) p.text));
     }
 
-pub call_forth : (bytes : List ℕ) (call : CallText) → call_of bytes ≡ Ok call → SpellsCall bytes call
+pub chain_forth : (bytes : List ℕ) (call : CallText) → call_of bytes ≡ Ok call → ChainCall bytes call
 unfolding call_of
-call_forth bytes call e =
+chain_forth bytes call e =
     let id = step (call_word_at (start bytes)) _ _ e in
     let kind = step (call_word_at id.value.1) _ _ id.then_on in
     let called = step (cond (kind.value.0 == 0) (Ok kind.value.1) (Err NotCall)) _ _ kind.then_on in
@@ -318,9 +318,9 @@ call_forth bytes call e =
     let e3 : call_word_at kind.value.1 ≡ Ok (vers.value.0, behind.value) = ap call_word_at k.1 ∙ vers.first ∙ ap (λ (c : Cursor). Ok (vers.value.0, c)) v.1 in
     called_parts bytes id.value.0 kind.value.0 vers.value.0 id.value.1 kind.value.1 behind.value call id.first kind.first k.0 e3 v.0 (body_forth id.value.0 behind.value call behind.then_on)
 
-pub call_back : (bytes : List ℕ) (call : CallText) → SpellsCall bytes call → call_of bytes ≡ Ok call
+pub chain_back : (bytes : List ℕ) (call : CallText) → ChainCall bytes call → call_of bytes ≡ Ok call
 unfolding call_of
-call_back bytes call s =
+chain_back bytes call s =
     let c0 = start bytes in
     let t1 = s.text in
     let c1 = after c0 t1.0 t1.1 in

@@ -1,41 +1,58 @@
--- Which bytes spell a call (RFC 5531 section 9), and a credential of AUTH_SYS (its appendix A).
+-- Which bytes spell a call (RFC 5531 section 9), and a credential of AUTH_SYS (its appendix A); and what is written for one.
 use Rattle.std.specs.Prelude.{◌≡◌, ◌⊎◌, ℕ, ◌≤◌, List, [], ◌∷◌, ◌++◌, length}
-use Rattle.xdr.specs.Items.{SpellsU32, SpellsOpaque}
+use Rattle.xdr.specs.Rows.{Item, Word, Opaque, Spells, text, AllFit}
+use Rattle.xdr.specs.Lists.{words_row}
+use Rattle.rpc_msg.specs.Numbers.{rpc_version, call_type, auth_none, auth_sys, auth_max, host_max, groups_max}
 use Rattle.rpc_msg.specs.Calls.{SenderText, CallText, nobody}
 
--- a value's spelling, and behind it the spelling of what follows
-abbrev pub Then : {A : Type 0} → (List ℕ → A → Type 0) → A → (List ℕ → Type 0) → List ℕ → Type 0
-Then Spells value Follows bytes = (front : List ℕ) × (rest : List ℕ) × (bytes ≡ front ++ rest) × Spells front value × Follows rest
+-- the body of AUTH_SYS: a stamp, the machine's name, uid, gid, the number of further gids, and these
+abbrev pub system_row : ℕ → SenderText → List Item
+system_row stamp s = Word stamp ∷ Opaque host_max s.host ∷ Word s.uid ∷ Word s.gid ∷ Word (length s.gids) ∷ words_row s.gids
 
-abbrev pub SpellsWords : List ℕ → (List ℕ → Type 0) → List ℕ → Type 0
-SpellsWords [] Follows bytes = Follows bytes
-SpellsWords (w ∷ ws) Follows bytes = Then SpellsU32 w (SpellsWords ws Follows) bytes
-
-abbrev pub AtEnd : List ℕ → Type 0
-AtEnd bytes = bytes ≡ []
-
--- a stamp, the machine's name, uid, gid, the number of further gids and these, and nothing more
 abbrev pub SpellsSystem : List ℕ → SenderText → Type 0
-SpellsSystem body s =
-    (length s.host ≤ 255) × (length s.gids ≤ 16)
-    × ((stamp : ℕ) × Then SpellsU32 stamp (Then SpellsOpaque s.host (Then SpellsU32 s.uid (Then SpellsU32 s.gid (Then SpellsU32 (length s.gids) (SpellsWords s.gids AtEnd))))) body)
+SpellsSystem body s = (length s.gids ≤ groups_max) × ((stamp : ℕ) × Spells body (system_row stamp s))
 
 -- a credential by its flavor: AUTH_NONE with any body, or AUTH_SYS
 abbrev pub SpellsSender : ℕ → List ℕ → SenderText → Type 0
-SpellsSender flavor body s = ((flavor ≡ 0) × (s ≡ nobody)) ⊎ ((flavor ≡ 1) × SpellsSystem body s)
+SpellsSender flavor body s = ((flavor ≡ auth_none) × (s ≡ nobody)) ⊎ ((flavor ≡ auth_sys) × SpellsSystem body s)
 
--- program, version, procedure, the credential, a verifier of any flavor, and the arguments
-abbrev pub SpellsParts : CallText → ℕ → List ℕ → ℕ → List ℕ → List ℕ → Type 0
-SpellsParts call flavor cred kind verf bytes =
-    Then SpellsU32 call.prog (Then SpellsU32 call.vers (Then SpellsU32 call.proc_no (Then SpellsU32 flavor (Then SpellsOpaque cred (Then SpellsU32 kind (Then SpellsOpaque verf (λ rest. rest ≡ call.args))))))) bytes
+-- what stands in front of the arguments: up to the credential, and a verifier of any flavor
+abbrev pub call_row : CallText → ℕ → List ℕ → ℕ → List ℕ → List Item
+call_row call flavor cred kind verf =
+    Word call.xid
+    ∷ Word call_type
+    ∷ Word rpc_version
+    ∷ Word call.prog
+    ∷ Word call.vers
+    ∷ Word call.proc_no
+    ∷ Word flavor
+    ∷ Opaque auth_max cred
+    ∷ Word kind
+    ∷ Opaque auth_max verf
+    ∷ []
 
--- xid, 0 for a call, the protocol's version 2, and these parts
 pub record SpellsCall (bytes : List ℕ) (call : CallText) : Type 0 where
   pub flavor : ℕ
   pub cred : List ℕ
   pub kind : ℕ
   pub verf : List ℕ
-  pub short_cred : length cred ≤ 400
-  pub short_verf : length verf ≤ 400
   pub sender : SpellsSender flavor cred call.sender
-  pub text : Then SpellsU32 call.xid (Then SpellsU32 0 (Then SpellsU32 2 (SpellsParts call flavor cred kind verf))) bytes
+  pub head : List ℕ
+  pub spelled : Spells head (call_row call flavor cred kind verf)
+  pub text : bytes ≡ head ++ call.args
+
+-- What is written for a call: its sender as a credential of AUTH_SYS with the stamp 0, and a verifier of AUTH_NONE.
+abbrev pub system_text : SenderText → List ℕ
+system_text s = text (system_row 0 s)
+
+abbrev pub sent_row : CallText → List Item
+sent_row call = call_row call auth_sys (system_text call.sender) auth_none []
+
+abbrev pub call_text : CallText → List ℕ
+call_text call = text (sent_row call) ++ call.args
+
+-- a call whose parts have a spelling
+pub record CanBeWritten (call : CallText) : Type 0 where
+  pub few : length call.sender.gids ≤ groups_max
+  pub sender : AllFit (system_row 0 call.sender)
+  pub head : AllFit (sent_row call)

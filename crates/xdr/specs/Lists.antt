@@ -38,6 +38,11 @@ behind_word k r c = do
 abbrev pub nothing_at : Cursor → Reading (Unit {0})
 nothing_at c = constant_at tt c
 
+-- words that stand behind one another
+abbrev pub words_row : List ℕ → List Item
+words_row [] = []
+words_row (n ∷ ns) = Word n ∷ words_row ns
+
 -- words that are all 0
 abbrev pub zeros_row : ℕ → List Item
 zeros_row zero = []
