@@ -174,6 +174,23 @@ fn a_failed_append_keeps_a_front(rt: HostRuntime) -> Result<(), Fail> {
     Ok(())
 }
 
+// The append is call 3, and keeps the whole piece.
+#[test]
+fn an_append_that_kept_all_has_failed(rt: HostRuntime) -> Result<(), Fail> {
+    let alloc = rt.alloc();
+    let mut desk = ReplyDesk::new(alloc);
+    let mut trace = Trace::new(alloc);
+    let mut cluster = MemCluster::new(alloc, vec![in alloc; fails_at(3)]?);
+    let file = taken_anew(&mut cluster)?;
+    let mut writer = Writer::new(alloc, file).map_err(|_| "made")?;
+    let job = put(b"abc", Stable::Unstable, desk.issue(1, 1)?);
+    assert_eq!(rt; turned(&mut writer, job, &mut trace), refused(5));
+    let failed = Failed { stored: 3, kept: 3 };
+    assert_eq!(rt; (writer.failed(), writer.stored()), (Some(failed), 3));
+    assert_eq!(rt; trace.outcomes(), [Outcome::Failed { kept: 3 }].as_slice());
+    Ok(())
+}
+
 // Calls 1 and 2 are the create and the taking, 3 the append, 4 to 6 the reads.
 #[test]
 fn bytes_are_compared_and_read(rt: HostRuntime) -> Result<(), Fail> {
