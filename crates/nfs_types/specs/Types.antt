@@ -33,7 +33,11 @@ set_time_at = union_at ((0, constant_at Leave) ∷ (1, constant_at Server) ∷ (
 
 -- sattr3: mode, uid, gid, size, atime and mtime, each where it is to be set
 abbrev pub set_row : SetAttr → List Item
-set_row s = option_row word_row s.mode ++ (option_row word_row s.uid ++ (option_row word_row s.gid ++ (option_row long_row s.size ++ (set_time_row s.atime ++ set_time_row s.mtime))))
+set_row s =
+    option_row word_row s.mode
+    ++ (option_row word_row s.uid
+    ++ (option_row word_row s.gid
+    ++ (option_row long_row s.size ++ (set_time_row s.atime ++ set_time_row s.mtime))))
 
 abbrev pub set_of : Option ℕ × (Option ℕ × (Option ℕ × (Option ℕ × (SetTime × SetTime)))) → SetAttr
 set_of s = record { mode = s.0; uid = s.1.0; gid = s.1.1.0; size = s.1.1.1.0; atime = s.1.1.1.1.0; mtime = s.1.1.1.1.1 }
@@ -55,7 +59,16 @@ abbrev pub type_row : FileType → List Item
 type_row t = Word (type_number t) ∷ []
 
 unfoldable pub type_at : Cursor → Reading FileType
-type_at = union_at ((1, constant_at Regular) ∷ (2, constant_at Directory) ∷ (3, constant_at Block) ∷ (4, constant_at Character) ∷ (5, constant_at Link) ∷ (6, constant_at Socket) ∷ (7, constant_at Fifo) ∷ [])
+type_at =
+    union_at (
+    (1, constant_at Regular)
+    ∷ (2, constant_at Directory)
+    ∷ (3, constant_at Block)
+    ∷ (4, constant_at Character)
+    ∷ (5, constant_at Link)
+    ∷ (6, constant_at Socket)
+    ∷ (7, constant_at Fifo)
+    ∷ [])
 
 -- specdata3: two numbers of a device
 abbrev pub device_row : Device → List Item
@@ -98,7 +111,9 @@ attr_of a =
     }
 
 unfoldable pub attr_at : Cursor → Reading Attr
-attr_at = map_at attr_of (type_at & u32_at & u32_at & u32_at & u32_at & u64_at & u64_at & device_at & u64_at & u64_at & time_at & time_at & time_at)
+attr_at =
+    map_at attr_of (
+    type_at & u32_at & u32_at & u32_at & u32_at & u64_at & u64_at & device_at & u64_at & u64_at & time_at & time_at & time_at)
 
 -- a moment in milliseconds as a time; seconds stop at their greatest number
 abbrev pub moment_time : ℕ → Time

@@ -112,7 +112,8 @@ args_row (args.Lookup place) = dir_op_row place
 args_row (args.Access handle mask) = handle_item handle ∷ Word mask ∷ []
 args_row (args.Readlink handle) = handle_row handle
 args_row (args.Read handle offset count) = handle_item handle ∷ Long offset ∷ Word count ∷ []
-args_row (args.Write handle offset count level bytes) = handle_item handle ∷ Long offset ∷ Word count ∷ Word (stable_number level) ∷ Opaque max_transfer bytes ∷ []
+args_row (args.Write handle offset count level bytes) =
+    handle_item handle ∷ Long offset ∷ Word count ∷ Word (stable_number level) ∷ Opaque max_transfer bytes ∷ []
 args_row (args.Create place how) = dir_op_row place ++ how_row how
 args_row (args.Mkdir place set) = dir_op_row place ++ set_row set
 args_row (args.Symlink place set path) = dir_op_row place ++ (set_row set ++ path_row path)
@@ -122,7 +123,8 @@ args_row (args.Rmdir place) = dir_op_row place
 args_row (args.Rename «from» to) = dir_op_row «from» ++ dir_op_row to
 args_row (args.Link handle place) = handle_item handle ∷ dir_op_row place
 args_row (args.Readdir handle cookie verifier count) = handle_item handle ∷ Long cookie ∷ Fixed 8 verifier ∷ Word count ∷ []
-args_row (args.Readdirplus handle cookie verifier dircount maxcount) = handle_item handle ∷ Long cookie ∷ Fixed 8 verifier ∷ Word dircount ∷ Word maxcount ∷ []
+args_row (args.Readdirplus handle cookie verifier dircount maxcount) =
+    handle_item handle ∷ Long cookie ∷ Fixed 8 verifier ∷ Word dircount ∷ Word maxcount ∷ []
 args_row (args.Fsstat handle) = handle_row handle
 args_row (args.Fsinfo handle) = handle_row handle
 args_row (args.Pathconf handle) = handle_row handle

@@ -110,7 +110,14 @@ info_row i =
     ∷ (time_row i.time_delta ++ (Word i.properties ∷ []))
 
 abbrev pub conf_row : PathConf → List Item
-conf_row p = Word p.linkmax ∷ Word p.name_max ∷ flag_item p.no_trunc ∷ flag_item p.chown_restricted ∷ flag_item p.case_insensitive ∷ flag_item p.case_preserving ∷ []
+conf_row p =
+    Word p.linkmax
+    ∷ Word p.name_max
+    ∷ flag_item p.no_trunc
+    ∷ flag_item p.chown_restricted
+    ∷ flag_item p.case_insensitive
+    ∷ flag_item p.case_preserving
+    ∷ []
 
 -- The rows of all procedures. Behind NFS3_OK, which is 0, stands what was asked for.
 abbrev pub results_row : Results → List Item
@@ -130,7 +137,8 @@ results_row Remove = Word 0 ∷ Word 0 ∷ Word 0 ∷ []
 results_row Rmdir = Word 0 ∷ Word 0 ∷ Word 0 ∷ []
 results_row Rename = Word 0 ∷ Word 0 ∷ Word 0 ∷ Word 0 ∷ Word 0 ∷ []
 results_row (Readdir verifier entries eof) = Word 0 ∷ Word 0 ∷ Fixed 8 verifier ∷ (list_row dir_entry_row entries ++ (flag_item eof ∷ []))
-results_row (Readdirplus verifier entries eof) = Word 0 ∷ Word 0 ∷ Fixed 8 verifier ∷ (list_row entry_plus_row entries ++ (flag_item eof ∷ []))
+results_row (Readdirplus verifier entries eof) =
+    Word 0 ∷ Word 0 ∷ Fixed 8 verifier ∷ (list_row entry_plus_row entries ++ (flag_item eof ∷ []))
 results_row (Fsstat stat) = Word 0 ∷ Word 0 ∷ stat_row stat
 results_row (Fsinfo info) = Word 0 ∷ Word 0 ∷ info_row info
 results_row (Pathconf conf) = Word 0 ∷ Word 0 ∷ conf_row conf
@@ -168,7 +176,16 @@ abbrev pub new_object_at : Cursor → Reading (List ℕ × (Attr × Unit {0}))
 new_object_at = behind_word 1 (handle_at & behind_word 1 (attr_at & zeros_at 2))
 
 abbrev pub stat_of : ℕ × (ℕ × (ℕ × (ℕ × (ℕ × (ℕ × ℕ))))) → FsStat
-stat_of p = record { tbytes = p.0; fbytes = p.1.0; abytes = p.1.1.0; tfiles = p.1.1.1.0; ffiles = p.1.1.1.1.0; afiles = p.1.1.1.1.1.0; invarsec = p.1.1.1.1.1.1 }
+stat_of p =
+    record {
+      tbytes = p.0;
+      fbytes = p.1.0;
+      abytes = p.1.1.0;
+      tfiles = p.1.1.1.0;
+      ffiles = p.1.1.1.1.0;
+      afiles = p.1.1.1.1.1.0;
+      invarsec = p.1.1.1.1.1.1;
+    }
 
 abbrev pub stat_at : Cursor → Reading FsStat
 stat_at = map_at stat_of (u64_at & u64_at & u64_at & u64_at & u64_at & u64_at & u32_at)
@@ -192,7 +209,15 @@ abbrev pub info_at : Cursor → Reading FsInfo
 info_at = map_at info_of (u32_at & u32_at & u32_at & u32_at & u32_at & u32_at & u32_at & u64_at & time_at & u32_at)
 
 abbrev pub conf_of : ℕ × (ℕ × (Bool × (Bool × (Bool × Bool)))) → PathConf
-conf_of p = record { linkmax = p.0; name_max = p.1.0; no_trunc = p.1.1.0; chown_restricted = p.1.1.1.0; case_insensitive = p.1.1.1.1.0; case_preserving = p.1.1.1.1.1 }
+conf_of p =
+    record {
+      linkmax = p.0;
+      name_max = p.1.0;
+      no_trunc = p.1.1.0;
+      chown_restricted = p.1.1.1.0;
+      case_insensitive = p.1.1.1.1.0;
+      case_preserving = p.1.1.1.1.1;
+    }
 
 abbrev pub conf_at : Cursor → Reading PathConf
 conf_at = map_at conf_of (u32_at & u32_at & bool_at & bool_at & bool_at & bool_at)
@@ -355,7 +380,8 @@ procedure_of_results (Refused _ _) = None
 
 -- a refusal by this procedure
 abbrev pub Refuses : ℕ → ℕ → Results → Type 0
-Refuses prog proc results = (status : ℕ) × (zeros : ℕ) × (results ≡ Refused status zeros) × (status ≢ 0) × (zeros_in (forms_of prog) proc ≡ Some zeros)
+Refuses prog proc results =
+    (status : ℕ) × (zeros : ℕ) × (results ≡ Refused status zeros) × (status ≢ 0) × (zeros_in (forms_of prog) proc ≡ Some zeros)
 
 -- These results may be the answer of this procedure.
 abbrev pub AnswerOf : ℕ → ℕ → Results → Type 0

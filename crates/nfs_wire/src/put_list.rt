@@ -35,7 +35,8 @@ pub fn put_readdirplus(
     entries: &[EntryPlus<'_>],
     eof: bool,
 ) -> Result<(), NoMemory>
-    ensures ok { OnOk result (writer.new ≡ joined_text writer.old (results_row (Readdirplus verifier.now (map entry_plus_view entries.now) eof))) }
+    ensures ok { OnOk result (writer.new ≡ joined_text writer.old (results_row
+        (Readdirplus verifier.now (map entry_plus_view entries.now) eof))) }
     ensures short { OnOk result (AllByRecursion HasShortNamePlus (map entry_plus_view entries.now)) }
 {
     put_zeros(writer, 2)?;

@@ -3,6 +3,7 @@ use Rattle.std.specs.Prelude.{ℕ, zero, suc, ◌==◌, nat_lt, if◌then◌else
 use Rattle.xdr.specs.declared.fault.XdrFault.{XdrFault}
 use Rattle.xdr.specs.declared.fault.XdrFault.TheVariants as xdr
 use Rattle.xdr.specs.Reading.{Cursor, Reading, start, u32_at, opaque_at, finish_at}
+use Rattle.rpc_msg.specs.Numbers.{rpc_version, call_type, auth_none, auth_sys, auth_max, host_max, groups_max}
 use Rattle.rpc_msg.specs.declared.fault.CallFault.{CallFault}
 use Rattle.rpc_msg.specs.declared.fault.CallFault.TheVariants.{NotCall, RpcMismatch, BadCred, RejectedCred, Short}
 
@@ -38,13 +39,13 @@ words_at (suc n) c = do
 unfoldable pub groups_at : Cursor → Reading (List ℕ)
 groups_at c = do
   count ← u32_at c
-  if nat_lt 16 count.0 then Err (xdr.TooLong c.place) else words_at count.0 count.1
+  if nat_lt groups_max count.0 then Err (xdr.TooLong c.place) else words_at count.0 count.1
 
 -- the body of AUTH_SYS: a stamp, the machine's name, uid, gid and further gids, and nothing more
 unfoldable pub system_sender : List ℕ → Result SenderText XdrFault
 system_sender body = do
   stamp ← u32_at (start body)
-  host ← opaque_at 255 stamp.1
+  host ← opaque_at host_max stamp.1
   uid ← u32_at host.1
   gid ← u32_at uid.1
   gids ← groups_at gid.1
@@ -62,8 +63,8 @@ or_bad_cred xid (Err fault) = Err (BadCred xid)
 -- by the credential's flavor: AUTH_NONE 0, whose body is passed over, AUTH_SYS 1, or none that is taken
 unfoldable pub sender_of : ℕ → ℕ → List ℕ → Result SenderText CallFault
 sender_of xid flavor body =
-    if flavor == 0 then Ok nobody
-    else if flavor == 1 then or_bad_cred xid (system_sender body)
+    if flavor == auth_none then Ok nobody
+    else if flavor == auth_sys then or_bad_cred xid (system_sender body)
     else Err (RejectedCred xid)
 
 -- a word of a call, which the message may be too short for
@@ -81,7 +82,7 @@ or_auth xid (Err (xdr.TooLong place)) = Err (BadCred xid)
 or_auth xid (Err _) = Err Short
 
 unfoldable pub call_opaque_at : ℕ → Cursor → Result (List ℕ × Cursor) CallFault
-call_opaque_at xid c = or_auth xid (opaque_at 400 c)
+call_opaque_at xid c = or_auth xid (opaque_at auth_max c)
 
 -- what stands behind the version of the protocol
 unfoldable pub call_body_at : ℕ → Cursor → Result CallText CallFault
@@ -101,7 +102,7 @@ unfoldable pub call_of : List ℕ → Result CallText CallFault
 call_of bytes = do
   xid ← call_word_at (start bytes)
   kind ← call_word_at xid.1
-  called ← (if kind.0 == 0 then Ok kind.1 else Err NotCall)
+  called ← (if kind.0 == call_type then Ok kind.1 else Err NotCall)
   vers ← call_word_at called
-  behind ← (if vers.0 == 2 then Ok vers.1 else Err (RpcMismatch xid.0))
+  behind ← (if vers.0 == rpc_version then Ok vers.1 else Err (RpcMismatch xid.0))
   call_body_at xid.0 behind

@@ -12,7 +12,15 @@ abbrev pub sender_view : Caller → List ℕ → SenderText
 sender_view caller host = record { uid = caller.uid; gid = caller.gid; gids = take caller.gid_count caller.gids; host = host }
 
 abbrev pub call_view : Call → CallText
-call_view call = record { xid = call.xid; prog = call.prog; vers = call.vers; proc_no = call.proc_no; sender = sender_view call.caller call.host; args = call.args }
+call_view call =
+    record {
+      xid = call.xid;
+      prog = call.prog;
+      vers = call.vers;
+      proc_no = call.proc_no;
+      sender = sender_view call.caller call.host;
+      args = call.args;
+    }
 
 -- The parts of a message, before they are taken out of it.
 abbrev pub groups_view : Groups → List ℕ
@@ -22,4 +30,12 @@ abbrev pub lent_sender_view : Sender → SenderText
 lent_sender_view s = sender_view s.caller s.host.now
 
 abbrev pub parts_view : Parts → CallText
-parts_view p = record { xid = p.xid; prog = p.prog; vers = p.vers; proc_no = p.proc_no; sender = lent_sender_view p.sender; args = p.args.now }
+parts_view p =
+    record {
+      xid = p.xid;
+      prog = p.prog;
+      vers = p.vers;
+      proc_no = p.proc_no;
+      sender = lent_sender_view p.sender;
+      args = p.args.now;
+    }

@@ -47,7 +47,10 @@ front_from (suc left) have bytes = elim (nat_lt (length bytes) 4) [
     | true ↦ Fault (TooLong (length have + fragment_len bytes))
     | false ↦ elim (nat_lt (length bytes) (4 + fragment_len bytes)) [
       | true ↦ Open
-      | false ↦ elim (is_last bytes) [ true ↦ Whole (have ++ fragment_body bytes) (bytes_behind bytes) | false ↦ front_from left (have ++ fragment_body bytes) (bytes_behind bytes) ]
+      | false ↦ elim (is_last bytes) [
+        | true ↦ Whole (have ++ fragment_body bytes) (bytes_behind bytes)
+        | false ↦ front_from left (have ++ fragment_body bytes) (bytes_behind bytes)
+      ]
     ]
   ]
 ]
@@ -89,7 +92,10 @@ SpellsFrom (suc left) have text joined =
     × (text ≡ fragment ++ more)
     × (length fragment ≡ 4 + fragment_len fragment)
     × (length have + fragment_len fragment ≤ record_max)
-    × (elim (is_last fragment) [ true ↦ (more ≡ []) × (joined ≡ have ++ drop 4 fragment) | false ↦ SpellsFrom left (have ++ drop 4 fragment) more joined ])
+    × (elim (is_last fragment) [
+      | true ↦ (more ≡ []) × (joined ≡ have ++ drop 4 fragment)
+      | false ↦ SpellsFrom left (have ++ drop 4 fragment) more joined
+    ])
 
 -- these bytes spell this record: the join of at most 64 fragments, with at most 1,052,672 bytes
 unfoldable pub SpellsRecord : List ℕ → List ℕ → Type 0

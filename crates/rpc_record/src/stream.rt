@@ -49,7 +49,7 @@ fn header_at(held: &[u8], piece: &[u8], at: usize) -> Option<u32>
 }
 
 /// Looks at the headers of the first record of the stream that begins with `held` and goes on with
-/// `piece`. It copies nothing.
+/// `piece`, from its first one on, whatever an earlier call saw of `held`. It copies nothing.
 pub fn scan(held: &[u8], piece: &[u8]) -> FirstRecord
     ensures { IsFirstRecord result (held.now ++ piece.now) }
 {

@@ -57,7 +57,8 @@ unfoldable pub script_of : {G E : Type 0} → (G → List ℕ → LineReading G 
 script_of read grammar before [] = empty_script AtOpen
 script_of read grammar before (rest ∷ []) = if may_be_line before rest then empty_script AtOpen else empty_script AtBad
 script_of read grammar before (line ∷ part ∷ parts) =
-    if may_be_line before line then line_then (read grammar line) (λ later. script_of read later (before + 1) (part ∷ parts)) else empty_script AtBad
+    if may_be_line before line then line_then (read grammar line) (λ later. script_of read later (before + 1) (part ∷ parts))
+    else empty_script AtBad
 
 -- the script of these bytes, which come after this many lines
 abbrev pub script_from : {G E : Type 0} → (G → List ℕ → LineReading G E) → G → ℕ → List ℕ → Script E

@@ -10,4 +10,6 @@ IsExact {A = A} r row = (from to : Cursor) (x : A) → (r from ≡ Ok (x, to)) �
 -- What is written for a value is read again, whatever follows it.
 abbrev pub IsReadAgain : {A : Type 0} → (Cursor → Reading A) → (A → List Item) → Type 0
 IsReadAgain {A = A} r row =
-    (place : ℕ) (x : A) (rest : List ℕ) → AllFit (row x) → r (record { place = place; left = text (row x) ++ rest }) ≡ Ok (x, record { place = place + length (text (row x)); left = rest })
+    (place : ℕ) (x : A) (rest : List ℕ) → AllFit (row x)
+    → r (record { place = place; left = text (row x) ++ rest })
+    ≡ Ok (x, record { place = place + length (text (row x)); left = rest })
