@@ -1,5 +1,6 @@
 -- Lists of texts as rules and pairs, and what they come to.
-use Rattle.std.specs.Prelude.{◌≡◌, ℕ, zero, suc, ◌-◌, ◌≤◌, List, [], ◌∷◌, length, take, slice_get, Some}
+use Rattle.std.specs.Prelude.{◌≡◌, ℕ, zero, suc, ◌-◌, ◌≤◌, List, [], ◌∷◌, length, map, take, slice_get, string_bytes, String, Some}
+use Rattle.std.specs.Global.{Global}
 use Rattle.exports_map.specs.Access.{access_by}
 use Rattle.exports_map.specs.Items.{IsExport, IsPair}
 use Rattle.exports_map.specs.declared.access.Access.{Access}
@@ -14,6 +15,10 @@ pub record RuleSet : Type 0 where
   pub exports : List ExportRule
   pub uids : List IdPair
   pub gids : List IdPair
+
+-- the bytes of texts
+abbrev pub texts : List (String Global) → List (List ℕ)
+texts strings = map string_bytes strings
 
 -- each text is that of the item at the same place
 abbrev pub AreItems : {X : Type 0} → (List ℕ → X → Type 0) → List (List ℕ) → List X → Type 0

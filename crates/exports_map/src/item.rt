@@ -20,7 +20,8 @@ fn separator_place(text: &[u8], separator: u8) -> Option<usize>
 fn number_before(text: &[u8], separator: u8) -> Option<(u32, &[u8])>
     requires { separator < 48 }
     ensures read { IfSome result (λ c. text.now ≡ decimal c.0 ++ separator ∷ c.1.now) }
-    ensures found { (n : ℕ) (rest : List ℕ) → n < 2 ^ 32 → text.now ≡ decimal n ++ separator ∷ rest → IsSomeAnd result (λ c. (c.0 ≡ n) × (c.1.now ≡ rest)) }
+    ensures found { (n : ℕ) (rest : List ℕ) → n < 2 ^ 32 → text.now ≡ decimal n ++ separator ∷ rest
+        → IsSomeAnd result (λ c. (c.0 ≡ n) × (c.1.now ≡ rest)) }
 {
     let i = separator_place(text, separator)?;
     let number = parse_u32(&text[..i])?;
@@ -31,7 +32,8 @@ fn number_before(text: &[u8], separator: u8) -> Option<(u32, &[u8])>
 fn byte_before(text: &[u8], separator: u8) -> Option<(u8, &[u8])>
     requires { separator < 48 }
     ensures read { IfSome result (λ c. text.now ≡ decimal c.0 ++ separator ∷ c.1.now) }
-    ensures found { (n : ℕ) (rest : List ℕ) → n < 2 ^ 8 → text.now ≡ decimal n ++ separator ∷ rest → IsSomeAnd result (λ c. (c.0 ≡ n) × (c.1.now ≡ rest)) }
+    ensures found { (n : ℕ) (rest : List ℕ) → n < 2 ^ 8 → text.now ≡ decimal n ++ separator ∷ rest
+        → IsSomeAnd result (λ c. (c.0 ≡ n) × (c.1.now ≡ rest)) }
 {
     let (number, rest) = number_before(text, separator)?;
     if number > 255 {
@@ -43,7 +45,8 @@ fn byte_before(text: &[u8], separator: u8) -> Option<(u8, &[u8])>
 // The address before a slash, and what follows that.
 fn address_before(text: &[u8]) -> Option<(u32, &[u8])>
     ensures read { IfSome result (λ c. IsAddress text.now c.0 c.1.now) }
-    ensures found { (address : ℕ) (rest : List ℕ) → IsAddress text.now address rest → IsSomeAnd result (λ c. (c.0 ≡ address) × (c.1.now ≡ rest)) }
+    ensures found { (address : ℕ) (rest : List ℕ) → IsAddress text.now address rest
+        → IsSomeAnd result (λ c. (c.0 ≡ address) × (c.1.now ≡ rest)) }
 {
     let (a, rest) = byte_before(text, b'.')?;
     let (b, rest) = byte_before(rest, b'.')?;

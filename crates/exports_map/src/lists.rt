@@ -1,7 +1,7 @@
 // Lists of items.
-ghost use Rattle.std.specs.Prelude.{◌≡◌, ◌≤◌, ℕ, length, map, string_bytes, Err, IfOk};
+ghost use Rattle.std.specs.Prelude.{◌≡◌, ◌≤◌, ℕ, length, Err, IfOk};
 ghost use Rattle.exports_map.specs.Items.{IsExport, IsPair};
-ghost use Rattle.exports_map.specs.Rules.{AreItems, IsFirstBad};
+ghost use Rattle.exports_map.specs.Rules.{AreItems, IsFirstBad, texts as texts_of};
 
 use crate::access::{ExportRule, IdPair};
 use crate::fault::ItemFault;
@@ -11,9 +11,9 @@ use std::alloc::Global;
 /// The rules that texts are.
 pub(crate) fn read_exports(alloc: Global, texts: &[String]) -> Result<Vec<ExportRule>, ItemFault>
     requires { length texts.now ≤ 256 }
-    ensures ok { IfOk result (λ rules. AreItems IsExport (map string_bytes texts.now) rules.items) }
+    ensures ok { IfOk result (λ rules. AreItems IsExport (texts_of texts.now) rules.items) }
     ensures few { IfOk result (λ rules. length rules.items ≡ length texts.now) }
-    ensures bad { (number : ℕ) → result ≡ Err (ItemFault.Bad number) → IsFirstBad IsExport (map string_bytes texts.now) number }
+    ensures bad { (number : ℕ) → result ≡ Err (ItemFault.Bad number) → IsFirstBad IsExport (texts_of texts.now) number }
 {
     let mut rules = Vec::new(alloc);
     for (i, text) in texts.iter().enumerate() {
@@ -30,8 +30,8 @@ pub(crate) fn read_exports(alloc: Global, texts: &[String]) -> Result<Vec<Export
 /// The pairs that texts are.
 pub(crate) fn read_pairs(alloc: Global, texts: &[String]) -> Result<Vec<IdPair>, ItemFault>
     requires { length texts.now ≤ 256 }
-    ensures ok { IfOk result (λ pairs. AreItems IsPair (map string_bytes texts.now) pairs.items) }
-    ensures bad { (number : ℕ) → result ≡ Err (ItemFault.Bad number) → IsFirstBad IsPair (map string_bytes texts.now) number }
+    ensures ok { IfOk result (λ pairs. AreItems IsPair (texts_of texts.now) pairs.items) }
+    ensures bad { (number : ℕ) → result ≡ Err (ItemFault.Bad number) → IsFirstBad IsPair (texts_of texts.now) number }
 {
     let mut pairs = Vec::new(alloc);
     for (i, text) in texts.iter().enumerate() {

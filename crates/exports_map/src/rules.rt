@@ -1,7 +1,7 @@
 // The rules of a server.
-ghost use Rattle.std.specs.Prelude.{◌≡◌, ◌≤◌, ◌<◌, ◌==◌, ℕ, List, length, map, find, position, string_bytes, IfOk, IfSome, Err};
+ghost use Rattle.std.specs.Prelude.{◌≡◌, ◌≤◌, ◌<◌, ◌==◌, ℕ, List, length, find, position, IfOk, IfSome, Err};
 ghost use Rattle.exports_map.specs.Access.{client_access, first_fit, fits, mapped_id};
-ghost use Rattle.exports_map.specs.Rules.{AreRules, IsRefused, numbered_access};
+ghost use Rattle.exports_map.specs.Rules.{AreRules, IsRefused, numbered_access, texts};
 ghost use Rattle.exports_map.specs.declared.access.ExportRule.{ExportRule as Rule};
 ghost use Rattle.exports_map.specs.declared.fault.RuleList.{RuleList as ListTerm};
 
@@ -52,9 +52,9 @@ impl Rules {
         requires few_exports { length exports.now ≤ 256 }
         requires few_uids { length uids.now ≤ 256 }
         requires few_gids { length gids.now ≤ 256 }
-        ensures ok { IfOk result (λ rules. AreRules (map string_bytes exports.now) (map string_bytes uids.now) (map string_bytes gids.now) rules) }
+        ensures ok { IfOk result (λ rules. AreRules (texts exports.now) (texts uids.now) (texts gids.now) rules) }
         ensures bad { (list : ListTerm) (number : ℕ) → result ≡ Err (RuleFault.Bad list number)
-            → IsRefused list number (map string_bytes exports.now) (map string_bytes uids.now) (map string_bytes gids.now) }
+            → IsRefused list number (texts exports.now) (texts uids.now) (texts gids.now) }
     {
         let exports = match read_exports(alloc, exports) {
             Ok(exports) => exports,
