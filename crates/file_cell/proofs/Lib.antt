@@ -1,7 +1,6 @@
-pub mod Ring
-pub mod Taking
-pub mod None
-pub mod Standing
+pub mod State
+pub mod WriterSide
+pub mod Files
 pub mod Cells
+pub mod ClosedFiles
 pub mod Histories
-pub mod Lines

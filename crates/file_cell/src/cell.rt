@@ -1,76 +1,58 @@
 // The context of one open file.
-ghost use Rattle.std.specs.Prelude.{◌≡◌, ◌+◌, ◌<◌, ◌-◌, ◌≤◌, ◌^◌, [], IfErr, IfOk, IfSome, length};
-ghost use Rattle.std.specs.Option.{option_map};
-ghost use Rattle.gw_model.specs.Ending.{Why, history_of};
+ghost use Rattle.std.specs.Prelude.{◌≡◌, ◌+◌, ◌<◌, ◌-◌, ◌≤◌, ◌^◌, [], IfErr, IfOk, length};
+ghost use Rattle.gw_model.specs.Bounds.{end_limit, max_transfer};
+ghost use Rattle.gw_model.specs.Ending.{EndReason, history_of};
 ghost use Rattle.gw_model.specs.File.{File};
-ghost use Rattle.gw_model.specs.Sides.{side_opened, side_pump, side_read, side_write};
-ghost use Rattle.admit.specs.Calls.{failure_of as heard_failure, news_of, read_request, write_request};
-ghost use Rattle.admit.specs.Leaving.{Hands};
-ghost use Rattle.writeback.specs.State.{failure_of};
-ghost use Rattle.job_line.specs.Ends.{IsOneContext, jobs_sent, jobs_taken, line_slots};
-ghost use Rattle.file_cell.specs.Files.{Fetches, Pumps, StandsFor, Writes};
+ghost use Rattle.gw_model.specs.Sides.{side_pump_step};
+ghost use Rattle.admit.specs.GivenUp.{Hands};
+ghost use Rattle.admit.specs.Line.{GoesOn, next_jobs};
+ghost use Rattle.job_line.specs.Ends.{IsOneContext, jobs_known, jobs_sent, jobs_taken, line_slots};
+ghost use Rattle.writeback.specs.State.{file_seen};
+ghost use Rattle.file_cell.specs.State.{IsHeard};
+ghost use Rattle.file_cell.specs.Files.{CellFetches, CellPumps, CellWrites, StandsFor};
 ghost use Rattle.file_cell.specs.History.{history_of_ended};
-ghost use Rattle.file_cell.specs.Steps.{IsBack, IsPumped, IsStepped, IsEnded, IsLineBack, Tells, fresh_cell, is_idle, pumped};
+ghost use Rattle.file_cell.specs.Steps.{CellIsPumped, CellTellsRead, CellTellsWrite, IsBack, IsEnded, IsJustOpened, IsLineBack, IsLooked, IsStepped, counted_admit, is_cell_idle, pumped_cell};
 
+use crate::admit_side::AdmitSide;
 use crate::closed::{Closed, Ended};
-use crate::intake::Intake;
-use admit::{Failed, News, Pumped, ReadReq, Verdict, WriteReq};
+use crate::writer_side::{Stepped, WriterSide};
+use admit::{Admit, Pumped, ReadReq, Verdict, WriteReq};
 use append_store::AppendFile;
 use gw_model::{FileId, Hull, Limits, Trace};
-use job_line::{LineIn, LineOut};
+use job_line::{LineIn, LineOut, begin};
 use range_map::PendingMap;
 use std::alloc::Global;
 use std::marker::Model;
 use tickets::Answer;
 use writeback::Writer;
 
-/// What a write step did.
-#[derive(Clone, Copy, Debug, Drop, PartialEq, Eq)]
-pub enum Stepped {
-    /// Nothing: as many tickets wait for a sync as may.
-    SyncFirst,
-    /// Nothing: no job is in the line.
-    Nothing,
-    /// It did the first job of the line. The answer is left.
-    Did,
-}
-
-/// The context of one open file: its admission side, its writer, and both ends of the line between them.
+/// The context of one open file: its admission side and its writer side, each with its end of the line between them.
 #[derive(Drop)]
 pub struct FileCell<F: AppendFile, M: PendingMap> {
-    id: FileId,
-    // How many bytes the file had when it was opened.
-    base: u64,
-    intake: Intake<M>,
-    writer: Writer<F>,
-    // What the last turn answered.
-    turned: Option<Answer>,
+    admit: AdmitSide<M>,
+    writer: WriterSide<F>,
 }
 
 impl<F: AppendFile, M: PendingMap> Model for FileCell<F, M> {
-    ghost use Rattle.std.specs.Prelude.{◌≤◌};
-    ghost use Rattle.writeback.specs.Answers.{ArePlain};
-    ghost use Rattle.file_cell.specs.State.{CellState, cell_of};
+    ghost use Rattle.file_cell.specs.State.{CellState, IsJoined, cell_of};
 
     ghost Value = { CellState };
 
-    ghost view = { λ c. cell_of c.id c.base c.intake c.writer c.turned };
+    ghost view = { λ c. cell_of c.admit c.writer };
 
-    ghost invariant = { λ c. (c.writer.writer.stored ≤ c.intake.taken) × ArePlain c.turned };
+    ghost invariant = { λ c. IsJoined c.admit c.writer };
 }
 
-// What is heard of a writer.
-fn news<F: AppendFile>(writer: &Writer<F>) -> News
-    ensures { news_of result ≡ writer.now.writer.failed }
+// Both ends of the line look anew. After it the admission side holds as sent just what is to be taken.
+fn look_beside<F: AppendFile, M: PendingMap>(admit: &mut AdmitSide<M>, writer: &mut WriterSide<F>)
+    requires { IsOneContext admit.old.admit.line writer.old.output }
+    ensures looked { IsLooked admit.old.admit.line writer.old.output admit.new.admit.line writer.new.output }
+    ensures admit { admit.new ≡ record admit.old { admit = counted_admit admit.new.admit.line writer.new.output admit.old.admit } }
+    ensures writer { writer.new ≡ record writer.old { output = writer.new.output } }
+    ensures held { IsHeard admit.old writer.old → admit.old.admit.side.held.line ≡ next_jobs writer.new.output }
 {
-    let failed = match writer.failed() {
-        Some(failed) => Some(Failed {
-            stored: failed.stored,
-            kept: failed.kept,
-        }),
-        None => None,
-    };
-    News { failed }
+    admit.admit.line_law();
+    admit.admit.beside(&mut writer.output);
 }
 
 impl<F: AppendFile, M: PendingMap> FileCell<F, M> {
@@ -84,14 +66,14 @@ impl<F: AppendFile, M: PendingMap> FileCell<F, M> {
         hull: Option<Hull>,
         moment: u64,
     ) -> Result<FileCell<F, M>, (F, (LineIn, LineOut))>
-        requires base { length (F.content body) < 2 ^ 63 }
         requires one { IsOneContext line.0 line.1 }
         requires empty { jobs_sent line.0 ≡ jobs_taken line.1 }
         requires last { line.0.begun < 2 ^ 64 - 1 }
         requires slots { (limits.line_slots ≤ 8) × (limits.line_slots ≤ line_slots line.0) }
         requires history { limits.history < 2 ^ 32 }
-        ensures opened { IfOk result (λ c. c ≡ fresh_cell file (record { object = F.mark body; content = F.content body; durable = F.durable body; faults = F.count body }) limits hull moment (line_slots line.0) (line.0.begun + 1)) }
-        ensures body { IfErr result (λ back. (F.mark back.0 ≡ F.mark body) × (F.content back.0 ≡ F.content body) × (F.durable back.0 ≡ F.durable body) × (F.count back.0 ≡ F.count body)) }
+        ensures opened { let seen = file_seen F.mark F.content F.durable F.count F.tally body in
+            IfOk result (λ c. IsJustOpened file seen limits hull moment line.0 line.1 c) }
+        ensures body { let seen = file_seen F.mark F.content F.durable F.count F.tally in IfErr result (λ back. seen back.0 ≡ seen body) }
         ensures line { IfErr result (λ back. IsBack line.0 line.1 back.1.0 back.1.1) }
     {
         let writer = match Writer::new(alloc, body) {
@@ -99,34 +81,41 @@ impl<F: AppendFile, M: PendingMap> FileCell<F, M> {
             Err(body) => return Err((body, line)),
         };
         let base = writer.stored();
-        match Intake::open(alloc, file, base, line, limits, hull, moment) {
-            Ok(intake) => Ok(FileCell {
-                id: file,
-                base,
-                intake,
-                writer,
-                turned: None,
+        let (mut input, mut output) = line;
+        begin(&mut input, &mut output, file, base);
+        match Admit::new(alloc, base, input, limits, hull, moment) {
+            Ok(admit) => Ok(FileCell {
+                admit: AdmitSide {
+                    id: file,
+                    base,
+                    admit,
+                },
+                writer: WriterSide {
+                    writer,
+                    output,
+                    turned: None,
+                },
             }),
-            Err(line) => Err((writer.into_file(), line)),
+            Err(input) => Err((writer.into_file(), (input, output))),
         }
     }
 
     /// Answers a WRITE of at most 1,048,576 bytes whose end is below 2^63, accepts it, or holds it. Takes memory.
     pub fn write(&mut self, request: WriteReq) -> Verdict
-        requires fits { request.offset + length request.bytes < 2 ^ 63 }
-        requires count { length request.bytes ≤ 1048576 }
-        ensures step { Tells result request.ticket self.old (side_write self.old.limits self.old.side (write_request request)) self.new }
-        ensures stands { Writes result self.old request self.new }
+        requires fits { request.offset + length request.bytes < end_limit }
+        requires count { length request.bytes ≤ max_transfer }
+        ensures step { CellTellsWrite result self.old request self.new }
+        ensures stands { CellWrites result self.old request self.new }
     {
-        self.intake.receive(request)
+        self.admit.write(request)
     }
 
     /// Holds a READ, or answers that the ready list has no room. Takes memory.
     pub fn read(&mut self, request: ReadReq) -> Verdict
-        ensures step { Tells result request.ticket self.old (side_read self.old.limits self.old.side (read_request request)) self.new }
-        ensures stands { Fetches result self.old request self.new }
+        ensures step { CellTellsRead result self.old request self.new }
+        ensures stands { CellFetches result self.old request self.new }
     {
-        self.intake.fetch(request)
+        self.admit.read(request)
     }
 
     /// Does the first job of the line, where there is room for its ticket: `next_answer` gives its answer. The trace has room
@@ -139,23 +128,27 @@ impl<F: AppendFile, M: PendingMap> FileCell<F, M> {
         if !self.writer.room() {
             return Stepped::SyncFirst;
         }
-        let Some(job) = self.intake.take() else {
+        if self.admit.is_line_empty() {
             return Stepped::Nothing;
-        };
-        self.turned = self.writer.turn(job, trace);
-        Stepped::Did
+        }
+        look_beside(&mut self.admit, &mut self.writer);
+        let stepped = self.writer.write_step(trace);
+        look_beside(&mut self.admit, &mut self.writer);
+        stepped
     }
 
     /// Hears of the writer, and sends what is ready. Where the writer failed and the file is live, it turns stale. Takes no
     /// memory.
     pub fn pump_step(&mut self) -> Pumped
         requires none_left { self.old.left ≡ [] }
-        ensures step { self.new ≡ pumped (side_pump self.old.limits self.old.writer.failed self.old.side) self.old }
-        ensures stands { Pumps self.old self.new }
-        ensures pumped { IsPumped result self.old.side self.new.side }
+        ensures step { let told = side_pump_step self.old.limits self.old.writer.failed self.old.side in
+            self.new ≡ pumped_cell told self.new.input self.old }
+        ensures line { GoesOn self.old.input self.new.input }
+        ensures stands { CellPumps self.old self.new }
+        ensures pumped { CellIsPumped result self.old.side self.new.side }
     {
-        let news = news(&self.writer);
-        self.intake.pump(news)
+        let news = self.writer.news();
+        self.admit.pump_step(news)
     }
 
     /// The next answer that a call left: that of a turn, then those of the admission side. Takes no memory.
@@ -163,60 +156,57 @@ impl<F: AppendFile, M: PendingMap> FileCell<F, M> {
         ensures hands { Hands result self.old.left self.new.left }
         ensures rest { self.new ≡ record self.old { left = self.new.left } }
     {
-        if let Some(answer) = self.turned.take() {
-            return Some(answer);
-        }
         if let Some(answer) = self.writer.next_answer() {
             return Some(answer);
         }
-        self.intake.next_answer()
+        self.admit.next_answer()
     }
 
     /// The length up to which the accepted writes have left no hole.
     pub fn reach(&self) -> u64
         ensures { result ≡ self.now.side.seen.reach }
     {
-        self.intake.reach()
+        self.admit.reach()
     }
 
     /// The moment of the last accepted write.
     pub fn changed(&self) -> Option<u64>
         ensures { result ≡ self.now.side.held.changed }
     {
-        self.intake.changed()
+        self.admit.changed()
     }
 
     /// Whether nothing is pending, ready, waiting, in the line or waiting for a sync.
-    pub fn is_idle(&mut self) -> bool
-        ensures idle { result ≡ is_idle self.old }
-        ensures same { self.new ≡ self.old }
+    pub fn is_idle(&self) -> bool
+        ensures { result ≡ is_cell_idle self.now }
     {
-        let quiet = self.intake.is_empty();
-        quiet && self.writer.waiting() == 0
+        self.admit.is_quiet() && self.writer.waiting() == 0
     }
 
-    /// Gives the parts of a file back, without a call on its body. The tickets that still wait for a sync are dropped.
+    /// Gives the parts of a file back, without a call on its body. The tickets that still wait for a sync are dropped. Takes no
+    /// memory.
     pub fn into_parts(self) -> Closed<F>
         requires none_left { self.left ≡ [] }
-        ensures body { record { object = F.mark result.body; content = F.content result.body; durable = F.durable result.body; faults = F.count result.body } ≡ self.file }
+        ensures body { file_seen F.mark F.content F.durable F.count F.tally result.body ≡ self.file }
         ensures line { IsLineBack self result.line.0 result.line.1 }
         ensures stored { result.stored ≡ self.writer.stored }
         ensures hull { result.hull ≡ self.side.held.hull }
         ensures changed { result.changed ≡ self.side.held.changed }
         ensures ended { IsEnded self result.ended }
-        ensures history { (f : File) (why : Why) → StandsFor self f → history_of_ended result.ended why ≡ history_of f why }
+        ensures history { (f : File) (why : EndReason) → StandsFor self f → history_of_ended result.ended why ≡ history_of f why }
     {
-        let FileCell {
-            id,
-            base,
-            intake,
+        let FileCell { admit, writer } = self;
+        let AdmitSide { id, base, admit } = admit;
+        let WriterSide {
             writer,
+            output,
             turned: _,
-        } = self;
-        let hull = intake.hull();
-        let changed = intake.changed();
-        let reach = intake.reach();
-        let (input, output, history) = intake.into_parts();
+        } = writer;
+        admit.line_law();
+        let hull = admit.hull();
+        let changed = admit.changed();
+        let reach = admit.reach();
+        let (input, history) = admit.into_parts();
         let stored = writer.stored();
         let ended = Ended {
             id,

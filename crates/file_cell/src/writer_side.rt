@@ -1,0 +1,100 @@
+// The writer side of an open file.
+ghost use Rattle.std.specs.Prelude.{◌≡◌, ◌<◌, [], ◌++◌, length, nat_lt};
+ghost use Rattle.gw_model.specs.Bounds.{max_waiting};
+ghost use Rattle.admit.specs.Calls.{news_of};
+ghost use Rattle.admit.specs.GivenUp.{Hands};
+ghost use Rattle.file_cell.specs.Steps.{SideSteps};
+
+use admit::{Failed, News};
+use append_store::AppendFile;
+use gw_model::Trace;
+use job_line::LineOut;
+use std::marker::Model;
+use tickets::Answer;
+use writeback::Writer;
+
+/// What a write step did.
+#[derive(Clone, Copy, Debug, Drop, PartialEq, Eq)]
+pub enum Stepped {
+    /// Nothing: as many tickets wait for a sync as may.
+    SyncFirst,
+    /// Nothing: no job is in the line.
+    Nothing,
+    /// It did the first job of the line. The answer is left.
+    Did,
+}
+
+/// The writer side of an open file, with the end of its line that takes: what may lie under a lock of its own.
+#[derive(Drop)]
+pub(crate) struct WriterSide<F: AppendFile> {
+    pub(crate) writer: Writer<F>,
+    pub(crate) output: LineOut,
+    // What the last turn answered.
+    pub(crate) turned: Option<Answer>,
+}
+
+impl<F: AppendFile> Model for WriterSide<F> {
+    ghost use Rattle.tickets.specs.Answers.{ArePlain};
+    ghost use Rattle.file_cell.specs.State.{IsWithinTaken, WriterSideState, writer_side_of};
+
+    ghost Value = { WriterSideState };
+
+    ghost view = { λ w. writer_side_of w.writer w.turned w.output };
+
+    ghost invariant = { λ w. IsWithinTaken w.writer.writer w.output × ArePlain w.turned };
+}
+
+impl<F: AppendFile> WriterSide<F> {
+    /// Does the next job that is known, where there is room for its ticket. The trace has room for a note. Takes memory for a
+    /// READ alone.
+    pub(crate) fn write_step(&mut self, trace: &mut Trace) -> Stepped
+        requires none_left { self.old.left ≡ [] }
+        requires noted { 0 < trace.old.room }
+        ensures step { SideSteps F.tells result self.old self.new trace.old trace.new }
+    {
+        if !self.writer.room() {
+            return Stepped::SyncFirst;
+        }
+        let Some(job) = self.output.take() else {
+            return Stepped::Nothing;
+        };
+        self.turned = self.writer.turn(job, trace);
+        Stepped::Did
+    }
+
+    /// What is heard of the writer.
+    pub(crate) fn news(&self) -> News
+        ensures { news_of result ≡ self.now.writer.failed }
+    {
+        let failed = self.writer.failed().map(|failed| Failed {
+            stored: failed.stored,
+            kept: failed.kept,
+        });
+        News { failed }
+    }
+
+    /// Whether fewer than 1,024 tickets wait for a sync.
+    pub(crate) fn room(&self) -> bool
+        ensures { result ≡ nat_lt (length self.now.writer.owed) max_waiting }
+    {
+        self.writer.room()
+    }
+
+    /// How many tickets wait for a sync.
+    pub(crate) fn waiting(&self) -> usize
+        ensures { result ≡ length self.now.writer.owed }
+    {
+        self.writer.waiting()
+    }
+
+    /// The next answer that a step left: that of a turn, then those of a sync. Takes no memory.
+    pub(crate) fn next_answer(&mut self) -> Option<Answer>
+        ensures hands { Hands result self.old.left self.new.left }
+        ensures rest { self.new ≡ record self.old { left = self.new.left } }
+    {
+        if let Some(answer) = self.turned.take() {
+            return Some(answer);
+        }
+        self.writer.next_answer()
+    }
+}
