@@ -1,5 +1,5 @@
 -- A message is read as a call exactly where it spells its row.
-use Rattle.std.proofs.Common.{inl, inr, ◌≡◌, ℕ, List, [], ◌∷◌, ◌++◌, length, refl, sym, ap, ◌∙◌, subst, append_assoc, append-nil, Ok}
+use Rattle.std.proofs.Common.{inl, inr, ◌≡◌, ℕ, List, [], ◌∷◌, ◌++◌, refl, sym, ap, ◌∙◌, subst, append_assoc, append-nil, Ok}
 use Rattle.xdr.specs.Rows.{Item, SpellsItem, Spells, text}
 use Rattle.xdr.specs.Lists.{words_row}
 use Rattle.xdr.proofs.Texts.{spells_text}
