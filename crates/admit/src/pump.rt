@@ -1,0 +1,158 @@
+// Giving up, and the pump.
+ghost use Rattle.std.specs.Prelude.{◌≡◌, ◌+◌, [], length, true, false};
+ghost use Rattle.gw_model.specs.Admission.{with_ready_sent};
+ghost use Rattle.gw_model.specs.File.{is_stale};
+ghost use Rattle.gw_model.specs.Ending.{hull_of_entries};
+ghost use Rattle.gw_model.specs.Sides.{HasNoPlaces, side_refusals, seen_without_pending, side_give_up_step, side_hearing_step, side_with_hull_to_top, side_pump_step, side_stale_step};
+ghost use Rattle.admit.specs.Line.{GoesOn};
+ghost use Rattle.admit.specs.State.{cause_of};
+ghost use Rattle.admit.specs.Calls.{GivesUp, IsPumped, Pumps, left_state, news_of, pump_state, with_let_go, with_sent};
+
+use crate::admit::Admit;
+use crate::given_up::{lose_lines, strike_ready};
+use crate::laws::request_laws;
+use crate::phase::{Cause, Phase};
+use crate::queue::send_all;
+use crate::request::{News, Pumped};
+use commit_queue::Waiting;
+use gw_model::status::NFS3ERR_IO;
+use gw_model::{Hull, join_hull};
+use range_map::PendingMap;
+use std::mem;
+
+impl<M: PendingMap> Admit<M> {
+    // The hull of what hangs joins the lost hull.
+    #[tactic(auto, using(crate::proofs::Goals::goals_of, crate::proofs::Goals::firsts_of))]
+    fn lost_hull(&self) -> Option<Hull>
+        ensures { result ≡ hull_of_entries self.now.side.held.hull self.now.side.seen.pending }
+    {
+        match self.pending.first() {
+            None => self.hull,
+            Some(entry) => join_hull(self.hull, entry.offset, self.pending.max_goal(1 << 63)),
+        }
+    }
+
+    fn let_go(&mut self)
+        requires none_left { self.old.left ≡ [] }
+        ensures { self.new ≡ with_let_go self.old }
+    {
+        lose_lines(&mut self.history, self.reach);
+        self.given_up.status = NFS3ERR_IO;
+        self.given_up.entries = mem::replace(&mut self.pending, M::new(self.alloc));
+        self.given_up.waiting = mem::replace(&mut self.waiting, Waiting::new(self.alloc));
+        self.given_up.jobs.clear();
+        self.memory = 0;
+    }
+
+    #[tactic(auto, unfolding(gw_model::specs::Sides::side_give_up_step))]
+    fn take_back(&mut self, moment: u64)
+        requires none_left { self.old.left ≡ [] }
+        ensures { self.new ≡ left_state (side_give_up_step moment self.old.side) self.old }
+    {
+        let hull = self.lost_hull();
+        self.let_go();
+        self.hull = hull;
+        self.used = moment;
+    }
+
+    /// Gives up the pending writes and the waiting COMMITs: `next_answer` hands out their answers. Takes no memory.
+    pub fn give_up(&mut self, moment: u64)
+        requires none_left { self.old.left ≡ [] }
+        ensures step { self.new ≡ left_state (side_give_up_step moment self.old.side) self.old }
+        ensures stands { GivesUp self.old moment self.new }
+    {
+        request_laws();
+        self.take_back(moment);
+    }
+
+    #[tactic(auto, unfolding(gw_model::specs::Sides::side_stale_step))]
+    fn turn_stale(&mut self, cause: Cause)
+        requires none_left { self.old.left ≡ [] }
+        ensures { self.new ≡ left_state (side_stale_step (cause_of cause) self.old.side) self.old }
+    {
+        lose_lines(&mut self.history, self.reach);
+        self.given_up.status = NFS3ERR_IO;
+        self.given_up.entries = mem::replace(&mut self.pending, M::new(self.alloc));
+        self.given_up.waiting = mem::replace(&mut self.waiting, Waiting::new(self.alloc));
+        self.memory = 0;
+        strike_ready(&mut self.queue, &mut self.given_up.jobs, &mut self.history);
+        self.phase = Phase::Stale(cause);
+    }
+
+    fn join_to_top(&mut self, low: u64)
+        ensures { self.new ≡ record self.old { side = side_with_hull_to_top low self.old.side } }
+    {
+        self.hull = join_hull(self.hull, low, self.top);
+    }
+
+    // Gives whether the file turned stale.
+    #[tactic(auto, unfolding(gw_model::specs::Sides::side_hearing_step, gw_model::specs::Sides::side_stale_step))]
+    fn hear(&mut self, news: News) -> bool
+        requires none_left { self.old.left ≡ [] }
+        ensures step { self.new ≡ left_state (side_hearing_step (news_of news) self.old.side) self.old }
+        ensures turned { result ≡ true → (is_stale self.old.side.held.phase ≡ false) × (is_stale self.new.side.held.phase ≡ true) }
+        ensures same { result ≡ false → self.new ≡ self.old }
+    {
+        let Some(failed) = news.failed else {
+            return false;
+        };
+        if let Phase::Stale(_) = self.phase {
+            return false;
+        }
+        self.join_to_top(failed.stored);
+        self.turn_stale(Cause::Append {
+            stored: failed.stored,
+            kept: failed.kept,
+        });
+        true
+    }
+
+    #[tactic(auto, unfolding(gw_model::specs::Admission::with_ready_sent))]
+    fn send(&mut self) -> u32
+        ensures step { self.new ≡ with_sent self.new.line self.old }
+        ensures line { GoesOn self.old.line self.new.line }
+        ensures sent { length self.new.side.held.line ≡ length self.old.side.held.line + result }
+        ensures same { self.new.side.held.phase ≡ self.old.side.held.phase }
+    {
+        let before = self.queue.line.in_line;
+        send_all(&mut self.queue, self.limits.line_slots as usize);
+        (self.queue.line.in_line - before) as u32
+    }
+
+    #[tactic(auto, unfolding(gw_model::specs::Sides::side_pump_step))]
+    fn take_news(&mut self, news: News) -> Pumped
+        requires none_left { self.old.left ≡ [] }
+        ensures step { self.new ≡ pump_state (side_pump_step self.old.limits (news_of news) self.old.side) self.new.line self.old }
+        ensures line { GoesOn self.old.line self.new.line }
+        ensures pumped { IsPumped result self.old self.new }
+    {
+        let turned = self.hear(news);
+        let sent = self.send();
+        if turned {
+            Pumped::TurnedStale
+        } else {
+            Pumped::Sent(sent)
+        }
+    }
+
+    #[tactic(auto, using(crate::proofs::Losses::unplaced))]
+    fn all_in_memory(&self)
+        ensures { HasNoPlaces self.now.side.held.ready }
+    {
+        let _ = &self.queue;
+    }
+
+    /// Hears of the writer, and sends what is ready. Where the writer failed and the file is live, it turns stale. Takes no
+    /// memory.
+    pub fn pump(&mut self, news: News) -> Pumped
+        requires none_left { self.old.left ≡ [] }
+        ensures step { self.new ≡ pump_state (side_pump_step self.old.limits (news_of news) self.old.side) self.new.line self.old }
+        ensures line { GoesOn self.old.line self.new.line }
+        ensures stands { Pumps self.old news self.new }
+        ensures pumped { IsPumped result self.old self.new }
+    {
+        request_laws();
+        self.all_in_memory();
+        self.take_news(news)
+    }
+}
