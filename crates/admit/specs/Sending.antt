@@ -4,7 +4,7 @@ use Rattle.std.specs.VecDeque.{deque_len}
 use Rattle.gw_model.specs.Order.{walk}
 use Rattle.gw_model.specs.File as model
 use Rattle.gw_model.specs.Admission.{JobLists, sent_lists, put_of, settles_at}
-use Rattle.commit_queue.specs.Queue.{Commit}
+use Rattle.commit_queue.specs.Queue.{QueueState}
 use Rattle.range_map.specs.declared.entry.Entry.{Entry}
 use Rattle.admit.specs.Line.{end_after, last_jobs}
 use Rattle.admit.specs.Parts.{all_waiting, writes_of, writes_with}
@@ -30,8 +30,8 @@ abbrev pub jobs_ahead : Queue → ℕ → List Entry → List model.Job
 jobs_ahead q n es = ready_jobs q.ready.items ++ map put_of (walk n (writes_of es))
 
 -- the ready jobs, the Puts of a walk from n on over the entries with one more, and the Settles once reach is at an end
-abbrev pub jobs_once : Queue → ℕ → ℕ → Entry → List Entry → List Commit → List model.Job
-jobs_once q n end e es cs = ready_jobs q.ready.items ++ map put_of (walk n (writes_with e es)) ++ settles_at end (all_waiting cs)
+abbrev pub jobs_once : Queue → ℕ → ℕ → Entry → List Entry → QueueState → List model.Job
+jobs_once q n end e es w = ready_jobs q.ready.items ++ map put_of (walk n (writes_with e es)) ++ settles_at end (all_waiting w.commits)
 
 -- how many jobs are ready once all of these entries are
 abbrev pub load_with : Queue → List Entry → ℕ

@@ -37,7 +37,7 @@ pub fn is_memory_over(memory: u128, more: u64, cap: u64) -> bool
     u128::from(cap) < memory.saturating_add(u128::from(more))
 }
 
-#[tactic(auto, using(crate::proofs::Entries::heads))]
+#[tactic(auto, using(crate::proofs::AcceptedEntries::heads))]
 fn is_reached<M: PendingMap>(pending: &M, reach: u64) -> bool
     ensures { result ≡ is_first_reached reach (writes_of (M.entries pending.now)) }
 {
@@ -48,7 +48,7 @@ fn is_reached<M: PendingMap>(pending: &M, reach: u64) -> bool
 }
 
 // Releases the first pending entry, which reach arrives at.
-#[tactic(auto, using(crate::proofs::Entries::firsts))]
+#[tactic(auto, using(crate::proofs::AcceptedEntries::firsts))]
 fn release_first<M: PendingMap>(
     pending: &mut M,
     queue: &mut Queue,
@@ -107,7 +107,7 @@ fn release_first<M: PendingMap>(
 }
 
 // Releases pending entries as long as reach arrives at the first, and gives the reach then.
-#[tactic(auto, using(crate::proofs::Entries::firsts))]
+#[tactic(auto, using(crate::proofs::AcceptedEntries::firsts))]
 fn release_all<M: PendingMap>(
     pending: &mut M,
     queue: &mut Queue,
@@ -139,7 +139,7 @@ fn release_all<M: PendingMap>(
 }
 
 // The COMMITs whose goal is reached become Settles, in queue order.
-#[tactic(auto, using(crate::proofs::Goals::goals))]
+#[tactic(auto, using(crate::proofs::CommitGoals::goals))]
 fn settle_reached(waiting: &mut Waiting, queue: &mut Queue, reach: u64)
     requires room { deque_len queue.old.ready + length waiting.old.commits ≤ deque_capacity queue.old.ready }
     ensures jobs { ready_of queue.new ≡ ready_of queue.old ++ settles_at reach (all_waiting waiting.old.commits) }
@@ -154,7 +154,7 @@ fn settle_reached(waiting: &mut Waiting, queue: &mut Queue, reach: u64)
 }
 
 /// Accepts an entry. Takes all memory first, and hands the entry back for want of it.
-#[tactic(auto, using(crate::proofs::Entries::inserts))]
+#[tactic(auto, using(crate::proofs::AcceptedEntries::inserts))]
 pub fn accept_entry<M: PendingMap>(
     pending: &mut M,
     queue: &mut Queue,
@@ -180,7 +180,7 @@ pub fn accept_entry<M: PendingMap>(
     ensures memory { OnOk result (memory.new ≡ memory_of (M.entries pending.new)) }
     ensures end { IfOk result (λ end. end ≡ reach_past reach (writes_with entry (M.entries pending.old))) }
     ensures rest { OnOk result (writes_of (M.entries pending.new) ≡ writes_beyond reach (writes_with entry (M.entries pending.old))) }
-    ensures jobs { IfOk result (λ end. ready_of queue.new ≡ jobs_once queue.old reach end entry (M.entries pending.old) waiting.old.commits) }
+    ensures jobs { IfOk result (λ end. ready_of queue.new ≡ jobs_once queue.old reach end entry (M.entries pending.old) waiting.old) }
     ensures waiting { IfOk result (λ end. all_waiting waiting.new.commits ≡ waiting_above end (all_waiting waiting.old.commits)) }
     ensures line { queue.new.line ≡ queue.old.line }
     ensures fetches { queue.new.fetches ≡ queue.old.fetches }

@@ -91,7 +91,7 @@ fn refused(alloc: Global, job: Job, status: u32) -> Option<Answer>
 }
 
 /// Takes jobs out up to the first that has a ticket.
-#[tactic(auto, using(crate::proofs::Losses::refusals))]
+#[tactic(auto, using(crate::proofs::GivenUpLines::refusals))]
 pub fn next_job(alloc: Global, leaving: &mut VecDeque<Job>, status: u32) -> Option<Answer>
     requires { 0 < status }
     ensures hands { Hands result (job_answers status leaving.old.items) (job_answers status leaving.new.items) }
@@ -125,7 +125,7 @@ fn lose_above(history: &mut Vec<HistoryEntry>, reach: u64)
 }
 
 /// The lines above reach are lost.
-#[tactic(auto, using(crate::proofs::Losses::numbers))]
+#[tactic(auto, using(crate::proofs::GivenUpLines::numbers))]
 pub fn lose_lines(history: &mut Vec<HistoryEntry>, reach: u64)
     requires numbered { AreNumberedFrom 0 (map line_of history.old.items) }
     ensures lines { map line_of history.new.items ≡ entries_lost_above reach (map line_of history.old.items) }
@@ -136,7 +136,7 @@ pub fn lose_lines(history: &mut Vec<HistoryEntry>, reach: u64)
 }
 
 // The line of a number is lost. It stands where its number says.
-#[tactic(auto, using(crate::proofs::Losses::numbers))]
+#[tactic(auto, using(crate::proofs::GivenUpLines::numbers))]
 fn lose_line(history: &mut Vec<HistoryEntry>, number: u32)
     requires numbered { AreNumberedFrom 0 (map line_of history.old.items) }
     ensures lines { map line_of history.new.items ≡ entries_lost_at number (map line_of history.old.items) }
@@ -152,7 +152,7 @@ fn lose_line(history: &mut Vec<HistoryEntry>, number: u32)
 }
 
 // The lines of the Puts among jobs are lost.
-#[tactic(auto, using(crate::proofs::Losses::numbers))]
+#[tactic(auto, using(crate::proofs::GivenUpLines::numbers))]
 fn lose_jobs(history: &mut Vec<HistoryEntry>, jobs: &VecDeque<Job>)
     requires numbered { AreNumberedFrom 0 (map line_of history.old.items) }
     ensures lines { map line_of history.new.items ≡ entries_lost_with (ready_jobs jobs.now.items) (map line_of history.old.items) }
@@ -167,7 +167,7 @@ fn lose_jobs(history: &mut Vec<HistoryEntry>, jobs: &VecDeque<Job>)
 }
 
 // The line of a Put is lost; of another job none is.
-#[tactic(auto, using(crate::proofs::Losses::numbers))]
+#[tactic(auto, using(crate::proofs::GivenUpLines::numbers))]
 fn lose_job(history: &mut Vec<HistoryEntry>, job: &Job)
     requires numbered { AreNumberedFrom 0 (map line_of history.old.items) }
     ensures lines { map line_of history.new.items ≡ entries_lost_with (ready_jobs (job.now ∷ [])) (map line_of history.old.items) }

@@ -6,7 +6,7 @@ ghost use Rattle.gw_model.specs.Ending.{hull_of_entries};
 ghost use Rattle.gw_model.specs.Sides.{HasNoPlaces, side_refusals, seen_without_pending, side_give_up_step, side_hearing_step, side_with_hull_to_top, side_pump_step, side_stale_step};
 ghost use Rattle.admit.specs.Line.{GoesOn};
 ghost use Rattle.admit.specs.State.{cause_of};
-ghost use Rattle.admit.specs.Calls.{GivesUp, IsPumped, Pumps, left_state, news_of, pump_state, with_let_go, with_sent};
+ghost use Rattle.admit.specs.Calls.{GivesUp, IsPumped, Pumps, left_state, news_of, pump_state, let_go_state, with_sent};
 
 use crate::admit::Admit;
 use crate::given_up::{lose_lines, strike_ready};
@@ -22,7 +22,7 @@ use std::mem;
 
 impl<M: PendingMap> Admit<M> {
     // The hull of what hangs joins the lost hull.
-    #[tactic(auto, using(crate::proofs::Goals::goals_of, crate::proofs::Goals::firsts_of))]
+    #[tactic(auto, using(crate::proofs::CommitGoals::goals_of, crate::proofs::CommitGoals::firsts_of))]
     fn lost_hull(&self) -> Option<Hull>
         ensures { result ≡ hull_of_entries self.now.side.held.hull self.now.side.seen.pending }
     {
@@ -34,7 +34,7 @@ impl<M: PendingMap> Admit<M> {
 
     fn let_go(&mut self)
         requires none_left { self.old.left ≡ [] }
-        ensures { self.new ≡ with_let_go self.old }
+        ensures { self.new ≡ let_go_state self.old }
     {
         lose_lines(&mut self.history, self.reach);
         self.given_up.status = NFS3ERR_IO;
@@ -135,7 +135,7 @@ impl<M: PendingMap> Admit<M> {
         }
     }
 
-    #[tactic(auto, using(crate::proofs::Losses::unplaced))]
+    #[tactic(auto, using(crate::proofs::GivenUpLines::unplaced))]
     fn all_in_memory(&self)
         ensures { HasNoPlaces self.now.side.held.ready }
     {

@@ -37,7 +37,8 @@ entry_at offset number es = find (is_at offset number) es
 
 -- the entry of this name takes a ticket and its stability
 abbrev pub with_ticket_at : ℕ → ℕ → Stable → TicketId → List Entry → List Entry
-with_ticket_at offset number level ticket es = map (λ e. if is_at offset number e then record e { stable = level; ticket = Some ticket } else e) es
+with_ticket_at offset number level ticket es =
+    map (λ e. if is_at offset number e then record e { stable = level; ticket = Some ticket } else e) es
 
 -- the bytes of the entry of this name are elsewhere
 abbrev pub with_place_at : ℕ → ℕ → Place → List Entry → List Entry

@@ -3,8 +3,8 @@ use Rattle.std.specs.Prelude.{vec_len}
 use Rattle.gw_model.specs.Order.{writes_beyond}
 use Rattle.range_map.specs.Entries.{with_entry}
 use Rattle.admit.specs.Parts.{AllUpTo, writes_of}
-use Rattle.admit.proofs.Losses.{numbered_more}
-use Rattle.admit.proofs.Entries.{upto-accepted, writes-put_in}
+use Rattle.admit.proofs.GivenUpLines.{numbered_more}
+use Rattle.admit.proofs.AcceptedEntries.{upto-accepted, writes-put_in}
 use Rattle.admit.proofs.accept.accept_entry.Goals as goal
 
 pub returns-clause-upto : goal.returns-clause-upto

@@ -1,5 +1,5 @@
 use Rattle.std.proofs.Common.{◌∙◌, arith}
-use Rattle.admit.proofs.Losses.{lose_next}
+use Rattle.admit.proofs.GivenUpLines.{lose_next}
 use Rattle.admit.proofs.given_up.lose_above.Goals as goal
 
 pub loop-at-preserved : goal.loop-at-preserved

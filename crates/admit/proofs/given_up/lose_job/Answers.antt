@@ -3,7 +3,7 @@ use Rattle.gw_model.specs.Sides.{entries_lost_with}
 use Rattle.admit.specs.declared.job.Job.{Job}
 use Rattle.admit.specs.Jobs.{ready_job}
 use Rattle.admit.specs.Parts.{line_of}
-use Rattle.admit.proofs.Losses.{lost-none}
+use Rattle.admit.proofs.GivenUpLines.{lost-none}
 use Rattle.admit.proofs.given_up.lose_job.Goals as goal
 
 pub returns-in-Compare-clause-lines : goal.returns-in-Compare-clause-lines

@@ -2,7 +2,7 @@ use Rattle.std.proofs.Common.{◌+◌, ◌∙◌, map, drop, sym, ap, arith}
 use Rattle.gw_model.specs.Sides.{entries_lost_with}
 use Rattle.admit.specs.Parts.{line_of}
 use Rattle.admit.specs.Queue.{ready_jobs}
-use Rattle.admit.proofs.Losses.{job_at, lost_next, lost-none, past_jobs}
+use Rattle.admit.proofs.GivenUpLines.{job_at, lost_next, lost-none, past_jobs}
 use Rattle.admit.proofs.given_up.lose_jobs.Goals as goal
 
 pub loop-job-preserved : goal.loop-job-preserved

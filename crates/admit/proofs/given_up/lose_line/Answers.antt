@@ -1,7 +1,7 @@
 use Rattle.std.proofs.Common.{◌≡◌, map, length, sym, arith}
 use Rattle.std.proofs.lemmas.List.{length-map}
 use Rattle.admit.specs.Parts.{line_of}
-use Rattle.admit.proofs.Losses.{none_past}
+use Rattle.admit.proofs.GivenUpLines.{none_past}
 use Rattle.admit.proofs.given_up.lose_line.Goals as goal
 
 pub returns-else-at-len-clause-lines : goal.returns-else-at-len-clause-lines
