@@ -2,6 +2,7 @@
 use Rattle.std.proofs.Common.{◌≡◌, ℕ, ◌+◌, ◌<◌, ◌≤◌, ◌^◌, Option, Some, None, List, [], ◌∷◌, ◌++◌, length, slice_get, refl, sym, ◌∙◌, ap, subst, append-nil, arith, length-take}
 use Rattle.std.specs.Prelude.{IfSome, IfNone}
 use Rattle.gw_model.specs.Ahead.{CallResult, Good, Bad}
+use Rattle.gw_model.specs.Bounds.{max_waiting}
 use Rattle.gw_model.specs.File.{Answer, Writer}
 use Rattle.gw_model.specs.Views.{TraceState}
 use Rattle.job_line.specs.Items.{MayFollow, put_size}

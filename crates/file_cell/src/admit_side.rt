@@ -1,18 +1,16 @@
 // The admission side of an open file.
 ghost use Rattle.std.specs.Prelude.{◌≡◌, ◌+◌, ◌<◌, ◌≤◌, ◌^◌, [], length, map};
 ghost use Rattle.gw_model.specs.Bounds.{end_limit, max_transfer};
-ghost use Rattle.gw_model.specs.File.{is_empty};
+ghost use Rattle.gw_model.specs.File.{is_empty, is_stale};
 ghost use Rattle.gw_model.specs.Sides.{side_pump_step};
 ghost use Rattle.job_line.specs.Ends.{SameContextIn, jobs_sent};
-ghost use Rattle.admit.specs.Calls.{Fetches, IsPumped, Pumps, TellsRead, TellsWrite, Writes, news_of, pump_state};
+ghost use Rattle.admit.specs.Calls.{Fetches, IsPumped, Pumps, TellsRead, TellsWrite, Writes, news_of, pump_state, with_heard};
 ghost use Rattle.admit.specs.GivenUp.{Hands};
 ghost use Rattle.admit.specs.Line.{GoesOn};
-ghost use Rattle.admit.specs.Parts.{line_of};
 ghost use Rattle.file_cell.specs.Steps.{is_quiet};
 
-use admit::{Admit, HistoryEntry, News, Pumped, ReadReq, Verdict, WriteReq};
-use gw_model::{FileId, Hull};
-use job_line::LineIn;
+use admit::{Admit, News, Pumped, ReadReq, Verdict, WriteReq};
+use gw_model::FileId;
 use range_map::PendingMap;
 use std::marker::Model;
 use tickets::Answer;
@@ -68,6 +66,31 @@ impl<M: PendingMap> AdmitSide<M> {
         ensures rest { self.new ≡ record self.old { admit = self.new.admit } }
     {
         self.admit.pump(news)
+    }
+
+    /// Looks anew for free slots, by this end of the line alone. After it fewer jobs may be held as sent. Takes no memory.
+    pub(crate) fn look(&mut self)
+        ensures same { SameContextIn self.old.admit.line self.new.admit.line }
+        ensures sent { jobs_sent self.new.admit.line ≡ jobs_sent self.old.admit.line }
+        ensures heard { self.old.admit.heard ≤ self.new.admit.heard }
+        ensures step { let new = self.new.admit in new ≡ with_heard new.side.held.line new.line new.heard self.old.admit }
+        ensures rest { self.new ≡ record self.old { admit = self.new.admit } }
+    {
+        self.admit.look();
+    }
+
+    /// How many marks its end of the line has sent.
+    pub(crate) fn begun(&self) -> u64
+        ensures { result ≡ self.now.admit.line.begun }
+    {
+        self.admit.begun()
+    }
+
+    /// Whether the file takes no writes any more.
+    pub(crate) fn is_stale(&self) -> bool
+        ensures { result ≡ is_stale self.now.admit.side.held.phase }
+    {
+        self.admit.is_stale()
     }
 
     /// The next answer that a call left. Takes no memory.

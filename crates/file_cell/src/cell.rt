@@ -2,13 +2,13 @@
 ghost use Rattle.std.specs.Prelude.{◌≡◌, ◌+◌, ◌<◌, ◌-◌, ◌≤◌, ◌^◌, [], IfErr, IfOk, length};
 ghost use Rattle.gw_model.specs.Bounds.{end_limit, max_transfer};
 ghost use Rattle.gw_model.specs.Ending.{EndReason, history_of};
-ghost use Rattle.gw_model.specs.File.{File};
+ghost use Rattle.gw_model.specs.File.{File, is_stale};
 ghost use Rattle.gw_model.specs.Sides.{side_pump_step};
 ghost use Rattle.admit.specs.GivenUp.{Hands};
 ghost use Rattle.admit.specs.Line.{GoesOn, next_jobs};
 ghost use Rattle.job_line.specs.Ends.{IsOneContext, jobs_known, jobs_sent, jobs_taken, line_slots};
 ghost use Rattle.writeback.specs.State.{file_seen};
-ghost use Rattle.file_cell.specs.State.{IsHeard};
+ghost use Rattle.file_cell.specs.State.{HasHeard};
 ghost use Rattle.file_cell.specs.Files.{CellFetches, CellPumps, CellWrites, StandsFor};
 ghost use Rattle.file_cell.specs.History.{history_of_ended};
 ghost use Rattle.file_cell.specs.Steps.{CellIsPumped, CellTellsRead, CellTellsWrite, IsBack, IsEnded, IsJustOpened, IsLineBack, IsLooked, IsStepped, counted_admit, is_cell_idle, pumped_cell};
@@ -49,7 +49,7 @@ fn look_beside<F: AppendFile, M: PendingMap>(admit: &mut AdmitSide<M>, writer: &
     ensures looked { IsLooked admit.old.admit.line writer.old.output admit.new.admit.line writer.new.output }
     ensures admit { admit.new ≡ record admit.old { admit = counted_admit admit.new.admit.line writer.new.output admit.old.admit } }
     ensures writer { writer.new ≡ record writer.old { output = writer.new.output } }
-    ensures held { IsHeard admit.old writer.old → admit.old.admit.side.held.line ≡ next_jobs writer.new.output }
+    ensures held { HasHeard admit.old writer.old → admit.old.admit.side.held.line ≡ next_jobs writer.new.output }
 {
     admit.admit.line_law();
     admit.admit.beside(&mut writer.output);
@@ -174,6 +174,13 @@ impl<F: AppendFile, M: PendingMap> FileCell<F, M> {
         ensures { result ≡ self.now.side.held.changed }
     {
         self.admit.changed()
+    }
+
+    /// Whether the file takes no writes any more.
+    pub fn is_stale(&self) -> bool
+        ensures { result ≡ is_stale self.now.side.held.phase }
+    {
+        self.admit.is_stale()
     }
 
     /// Whether nothing is pending, ready, waiting, in the line or waiting for a sync.

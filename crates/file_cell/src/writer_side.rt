@@ -73,6 +73,13 @@ impl<F: AppendFile> WriterSide<F> {
         News { failed }
     }
 
+    /// How many marks its end of the line has taken.
+    pub(crate) fn begun(&self) -> u64
+        ensures { result ≡ self.now.output.begun }
+    {
+        self.output.begun()
+    }
+
     /// Whether fewer than 1,024 tickets wait for a sync.
     pub(crate) fn room(&self) -> bool
         ensures { result ≡ nat_lt (length self.now.writer.owed) max_waiting }
