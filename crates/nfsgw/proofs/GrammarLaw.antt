@@ -1,4 +1,4 @@
--- `line_of` gives just the lines of the grammar.
+-- `grammar_line` gives just the lines of the grammar.
 use Rattle.std.proofs.Common.{◌≡◌, ℕ, ◌+◌, ◌==◌, ◌<◌, ◌^◌, ◌&&◌, eqb, nat_lt, nat_eq, not, Bool, true, false, cond, List, [], ◌∷◌, ◌++◌, length, take, drop, get_or, Option, Some, None, Result, Ok, Err, codes, position, decimal, bytes_eq, refl, sym, ◌∙◌, ap, subst, append_assoc, length-append, arith}
 use Rattle.std.specs.List.{starts_with, position_or_len, prefix_len}
 use Rattle.std.specs.Char.{digit_value}
@@ -16,16 +16,16 @@ use Rattle.hex.specs.Hex.{decode_of}
 use Rattle.hex.specs.declared.error.FromHexError.{FromHexError}
 use Rattle.transcript.specs.Fields.{number_of, some_bytes}
 use Rattle.transcript.proofs.Numbers.{number_of-some, number_of-decimal}
-use Rattle.nfsgw.specs.Grammar.{IsLine, IsName, is_name, file_line, bytes_line, piece_in, other_line, line_of}
+use Rattle.nfsgw.specs.Grammar.{IsLine, IsName, is_name, file_line, bytes_line, piece_in, other_line, grammar_line}
 use Rattle.nfsgw.specs.declared.grammar.Event.TheVariants.{MakeFile, Bytes, Turn, Pump}
 use Rattle.nfsgw.specs.declared.grammar.Line.{Line}
 use Rattle.nfsgw.specs.declared.grammar.Line.TheVariants.{Go, End}
-use Rattle.nfsgw.proofs.NameLaw.{name_of_test, test_of_name}
+use Rattle.nfsgw.proofs.GrammarNames.{name_of_test, test_of_name}
 
 -- from the grammar to the function
 
-file_again : (first : Bool) (name : List ℕ) → first ≡ true → IsName name → line_of first (codes "file " ++ name) ≡ Some (Go MakeFile)
-unfolding line_of
+file_again : (first : Bool) (name : List ℕ) → first ≡ true → IsName name → grammar_line first (codes "file " ++ name) ≡ Some (Go MakeFile)
+unfolding grammar_line
 file_again first name f n = rw (f, test_of_name name n) refl
 
 digit_is_not_space : (c : ℕ) → digit_value c < 10 → (c == 32) ≡ false
@@ -62,30 +62,30 @@ bytes_again conn hex bytes c d h =
     let front : take (length digits) (digits ++ 32 ∷ hex) ≡ digits = take-append_seam digits (32 ∷ hex) in
     rw (at, front, after_digits digits hex, number_of-decimal 32 conn wide c) (piece_again conn bytes (decode_of hex) d h)
 
-bytes_word : (first : Bool) (rest : List ℕ) → line_of first (codes "bytes " ++ rest) ≡ bytes_line rest (position (λ b. b == 32) rest)
-unfolding line_of
+bytes_word : (first : Bool) (rest : List ℕ) → grammar_line first (codes "bytes " ++ rest) ≡ bytes_line rest (position (λ b. b == 32) rest)
+unfolding grammar_line
 bytes_word first rest = refl
 
-turn_again : (first : Bool) → line_of first (codes "turn 4") ≡ Some (Go Turn)
-unfolding line_of
+turn_again : (first : Bool) → grammar_line first (codes "turn 4") ≡ Some (Go Turn)
+unfolding grammar_line
 turn_again first = refl
 
-pump_again : (first : Bool) → line_of first (codes "pump 4") ≡ Some (Go Pump)
-unfolding line_of
+pump_again : (first : Bool) → grammar_line first (codes "pump 4") ≡ Some (Go Pump)
+unfolding grammar_line
 pump_again first = refl
 
-end_again : (first : Bool) → line_of first (codes "end") ≡ Some End
-unfolding line_of
+end_again : (first : Bool) → grammar_line first (codes "end") ≡ Some End
+unfolding grammar_line
 end_again first = refl
 
-pub spelled : (first : Bool) (text : List ℕ) (line : Line) → IsLine first text line → line_of first text ≡ Some line
-spelled first text (Go MakeFile) s = ap (line_of first) s.2 ∙ file_again first s.0 s.1 s.3
+pub spelled : (first : Bool) (text : List ℕ) (line : Line) → IsLine first text line → grammar_line first text ≡ Some line
+spelled first text (Go MakeFile) s = ap (grammar_line first) s.2 ∙ file_again first s.0 s.1 s.3
 spelled first text (Go (Bytes conn bytes)) s =
     let whole : text ≡ codes "bytes " ++ (decimal conn ++ 32 ∷ s.0) = s.1 ∙ append_assoc (codes "bytes ") (decimal conn) (32 ∷ s.0) in
-    ap (line_of first) whole ∙ (bytes_word first (decimal conn ++ 32 ∷ s.0) ∙ bytes_again conn s.0 bytes s.2 s.3 s.4)
-spelled first text (Go Turn) s = ap (line_of first) s ∙ turn_again first
-spelled first text (Go Pump) s = ap (line_of first) s ∙ pump_again first
-spelled first text End s = ap (line_of first) s ∙ end_again first
+    ap (grammar_line first) whole ∙ (bytes_word first (decimal conn ++ 32 ∷ s.0) ∙ bytes_again conn s.0 bytes s.2 s.3 s.4)
+spelled first text (Go Turn) s = ap (grammar_line first) s ∙ turn_again first
+spelled first text (Go Pump) s = ap (grammar_line first) s ∙ pump_again first
+spelled first text End s = ap (grammar_line first) s ∙ end_again first
 
 -- and back
 
@@ -160,6 +160,6 @@ on_bytes : (first : Bool) (text : List ℕ) (line : Line) (b : Bool) → starts_
 on_bytes first text line true t f = bytes_whole first text line (word_front (codes "bytes ") text t) (bytes_back (drop 6 text) (position (λ b. b == 32) (drop 6 text)) line refl f)
 on_bytes first text line false t f = on_turn first text line (bytes_eq text (codes "turn 4")) refl f
 
-pub read_as : (first : Bool) (text : List ℕ) (line : Line) → line_of first text ≡ Some line → IsLine first text line
-unfolding line_of
+pub read_as : (first : Bool) (text : List ℕ) (line : Line) → grammar_line first text ≡ Some line → IsLine first text line
+unfolding grammar_line
 read_as first text line e = on_bytes first text line (starts_with nat_eq text (codes "bytes ")) refl e

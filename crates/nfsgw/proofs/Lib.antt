@@ -1,23 +1,24 @@
-mod NameLaw
+mod GrammarNames
 mod GrammarLaw
-pub mod Asking
-mod Asks
-pub mod Lines
-pub mod Traffic
-pub mod Replies
-pub mod Assembling
-pub mod Ready
-pub mod Growing
-pub mod Acting
-pub mod Opens
-pub mod Making
-pub mod Jobs
-pub mod Links
-pub mod Doing
-pub mod Hearing
-pub mod Linking
-pub mod Runs
-pub mod Finishes
-pub mod Clearing
-pub mod StepCases
-mod Rows
+pub mod MessageAsked
+mod MessageRows
+pub mod GrammarTests
+pub mod RunCounts
+pub mod ReplyTexts
+pub mod StreamRecords
+pub mod GatewayReady
+pub mod OneReply
+pub mod WorldGrowth
+pub mod WorldRequests
+pub mod WorldClosed
+pub mod WorldCreation
+pub mod WorldTurns
+pub mod LinkMap
+pub mod GatewayActs
+pub mod GatewayPieces
+pub mod LinkPieces
+pub mod RunLines
+pub mod RunEnd
+pub mod RunEvents
+pub mod GatewayEvents
+mod RunRows

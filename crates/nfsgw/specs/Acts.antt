@@ -5,23 +5,23 @@ use Rattle.nfsgw.specs.declared.call.WriteCall.{WriteCall}
 
 pub data Act : Type 0 where
   -- the file is created
-  Make : Act
+  CreateFile : Act
   -- an event begins in which connections are heard
-  Begins : Act
+  BeginEvent : Act
   -- a request is answered at once
-  Says : (conn xid : ℕ) (reply : List ℕ) → Act
+  Reply : (conn xid : ℕ) (reply : List ℕ) → Act
   -- an UNSTABLE WRITE of the file
-  Writes : (conn : ℕ) (call : WriteCall) → Act
+  WriteFile : (conn : ℕ) (call : WriteCall) → Act
   -- a READ of the file
-  Reads : (conn : ℕ) (call : ReadCall) → Act
+  ReadFile : (conn : ℕ) (call : ReadCall) → Act
   -- a connection ends
-  Ends : (conn : ℕ) → Act
+  CloseConnection : (conn : ℕ) → Act
   -- an event: the writer does the first job
-  Turns : Act
+  TurnFile : Act
   -- an event: the admission side hears of the writer and sends what is ready
-  Pumps : Act
+  PumpFile : Act
 
 -- whether its connection ends with it
 abbrev pub act_ends : Act → Bool
-act_ends (Ends conn) = true
+act_ends (CloseConnection conn) = true
 act_ends _ = false

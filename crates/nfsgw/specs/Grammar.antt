@@ -2,8 +2,8 @@
 use Rattle.std.specs.Prelude.{◌≡◌, ◌≢◌, ℕ, ◌+◌, ◌^◌, ◌<◌, ◌≤◌, ◌==◌, ◌&&◌, Bool, true, false, not, if◌then◌else◌, nat_lt, nat_le, nat_eq, List, ◌∷◌, ◌++◌, length, take, drop, codes, position, decimal, bytes_eq, Option, Some, None, Ok}
 use Rattle.std.specs.List.{starts_with, AllPass, list_all}
 use Rattle.hex.specs.Hex.{decode_of}
-use Rattle.transcript.specs.Fields.{number_of, bytes_of}
-use Rattle.transcript.specs.Script.{Reading, Last, Goes, Refused}
+use Rattle.transcript.specs.Fields.{number_of, hex_bytes}
+use Rattle.transcript.specs.Script.{LineReading, Last, Goes, Refused}
 use Rattle.nfsgw.specs.declared.grammar.Event.{Event}
 use Rattle.nfsgw.specs.declared.grammar.Event.TheVariants.{MakeFile, Bytes, Turn, Pump}
 use Rattle.nfsgw.specs.declared.grammar.Line.{Line}
@@ -41,7 +41,7 @@ piece_in _ _ = None
 -- what follows `bytes `, cut at its first space
 abbrev pub bytes_line : List ℕ → Option ℕ → Option Line
 bytes_line text None = None
-bytes_line text (Some i) = piece_in (number_of 32 (take i text)) (bytes_of (drop (i + 1) text))
+bytes_line text (Some i) = piece_in (number_of 32 (take i text)) (hex_bytes (drop (i + 1) text))
 
 abbrev pub file_line : Bool → List ℕ → Option Line
 file_line first text = if first && starts_with nat_eq text (codes "file ") && is_name (drop 5 text) then Some (Go MakeFile) else None
@@ -55,14 +55,14 @@ other_line first text =
     else file_line first text
 
 -- The same as a function: the line that a text is, if it is one, as the first or as a later one.
-unfoldable pub line_of : Bool → List ℕ → Option Line
-line_of first text = if starts_with nat_eq text (codes "bytes ") then bytes_line (drop 6 text) (position (λ b. b == 32) (drop 6 text)) else other_line first text
+unfoldable pub grammar_line : Bool → List ℕ → Option Line
+grammar_line first text = if starts_with nat_eq text (codes "bytes ") then bytes_line (drop 6 text) (position (λ b. b == 32) (drop 6 text)) else other_line first text
 
 -- what a line leaves of the grammar: whether the next one is the first
-abbrev pub reading_of : Option Line → Reading Bool Event
+abbrev pub reading_of : Option Line → LineReading Bool Event
 reading_of None = Refused
 reading_of (Some End) = Last
 reading_of (Some (Go event)) = Goes event false
 
-abbrev pub read : Bool → List ℕ → Reading Bool Event
-read first text = reading_of (line_of first text)
+abbrev pub line_reading : Bool → List ℕ → LineReading Bool Event
+line_reading first text = reading_of (grammar_line first text)

@@ -6,69 +6,66 @@ use Rattle.md5.specs.Md5.{md5}
 use Rattle.handles.specs.Handle.{handle_text}
 use Rattle.xdr.specs.declared.fault.XdrFault.{XdrFault}
 use Rattle.xdr.specs.Items.{word}
-use Rattle.xdr.specs.Reading.{start, next_word}
 use Rattle.rpc_msg.specs.declared.fault.CallFault.{CallFault}
 use Rattle.rpc_msg.specs.declared.fault.CallFault.TheVariants.{NotCall, RpcMismatch, BadCred, RejectedCred, Short, Memory}
 use Rattle.rpc_msg.specs.Calls.{CallText, call_of}
-use Rattle.rpc_msg.specs.Replies.{accepted, mismatched, denied}
-use Rattle.nfs_types.specs.declared.status.TheConstants.{NFS3ERR_BADHANDLE, NFS3ERR_STALE, NFS3ERR_INVAL}
+use Rattle.rpc_msg.specs.Replies.{accepted_text, rpc_mismatch_text, denial_text}
+use Rattle.gw_model.specs.Statuses.{badhandle, inval, stale}
 use Rattle.nfs_wire.specs.declared.args.Args.{Args}
 use Rattle.nfs_wire.specs.declared.args.Args.TheVariants as args
 use Rattle.nfs_wire.specs.Arguments.{args_of}
 use Rattle.nfsgw.specs.declared.message.WriteArgs.{WriteArgs}
 use Rattle.nfsgw.specs.declared.message.Asked.{Asked}
-use Rattle.nfsgw.specs.declared.message.Asked.TheVariants.{Ends, Says, Reads, Writes}
-use Rattle.nfsgw.specs.declared.message.TheConstants.{SUCCESS, PROG_UNAVAIL, PROG_MISMATCH, PROC_UNAVAIL, GARBAGE_ARGS, AUTH_BADCRED, AUTH_REJECTEDCRED, NFS_PROGRAM, MOUNT_PROGRAM, VERSION, NULL, READ, WRITE}
-
--- the number of the first four bytes
-abbrev pub xid_of : List ℕ → ℕ
-xid_of message = next_word (start message)
+use Rattle.nfsgw.specs.declared.message.Asked.TheVariants as asked
+use Rattle.rpc_msg.specs.Numbers.{success, prog_unavail, prog_mismatch, proc_unavail, garbage_args, auth_bad_cred, auth_rejected_cred}
+use Rattle.nfs_wire.specs.Programs.{nfs_program, mount_program, nfs_version}
+use Rattle.nfsgw.specs.declared.message.TheConstants.{NULL, READ, WRITE}
 
 -- an accepted reply without results
 abbrev pub reply_to : ℕ → ℕ → Asked
-reply_to xid stat = Says xid (accepted xid stat)
+reply_to xid stat = asked.Reply xid (accepted_text xid stat)
 
 -- the reply to a call of another version than 3, which is the lowest and the highest
 abbrev pub mismatch_text : ℕ → List ℕ
-mismatch_text xid = accepted xid PROG_MISMATCH ++ word VERSION ++ word VERSION
+mismatch_text xid = accepted_text xid prog_mismatch ++ word nfs_version ++ word nfs_version
 
 -- a WRITE has to be UNSTABLE
 abbrev pub write_with : ℕ → Stable → WriteArgs → Asked
-write_with xid Unstable q = Writes xid q
-write_with xid _ q = reply_to xid PROC_UNAVAIL
+write_with xid Unstable q = asked.Write xid q
+write_with xid _ q = reply_to xid proc_unavail
 
 -- the arguments of a procedure that is served
 abbrev pub asked_with : ℕ → Args → Asked
-asked_with xid args.Null = reply_to xid SUCCESS
-asked_with xid args.MountNull = reply_to xid SUCCESS
-asked_with xid (args.Read handle offset count) = Reads xid (record { handle = handle; offset = offset; count = count })
+asked_with xid args.Null = reply_to xid success
+asked_with xid args.MountNull = reply_to xid success
+asked_with xid (args.Read handle offset count) = asked.Read xid (record { handle = handle; offset = offset; count = count })
 asked_with xid (args.Write handle offset count stable bytes) = write_with xid stable (record { handle = handle; offset = offset; count = count; «data» = bytes })
-asked_with xid _ = reply_to xid PROC_UNAVAIL
+asked_with xid _ = reply_to xid proc_unavail
 
 abbrev pub asked_by_args : ℕ → Result Args XdrFault → Asked
 asked_by_args xid (Ok a) = asked_with xid a
-asked_by_args xid (Err fault) = reply_to xid GARBAGE_ARGS
+asked_by_args xid (Err fault) = reply_to xid garbage_args
 
 -- the procedures that are served: NULL of both programs, READ and WRITE
 abbrev pub is_served : ℕ → ℕ → Bool
-is_served prog proc_no = proc_no == NULL || prog == NFS_PROGRAM && (proc_no == READ || proc_no == WRITE)
+is_served prog proc_no = proc_no == NULL || prog == nfs_program && (proc_no == READ || proc_no == WRITE)
 
 -- a call: its program, version and procedure are judged in this order, and then its arguments
 abbrev pub asked_by_call : CallText → Asked
 asked_by_call call =
-    if not (call.prog == NFS_PROGRAM || call.prog == MOUNT_PROGRAM) then reply_to call.xid PROG_UNAVAIL
-    else if not (call.vers == VERSION) then Says call.xid (mismatch_text call.xid)
-    else if not (is_served call.prog call.proc_no) then reply_to call.xid PROC_UNAVAIL
+    if not (call.prog == nfs_program || call.prog == mount_program) then reply_to call.xid prog_unavail
+    else if not (call.vers == nfs_version) then asked.Reply call.xid (mismatch_text call.xid)
+    else if not (is_served call.prog call.proc_no) then reply_to call.xid proc_unavail
     else asked_by_args call.xid (args_of call.prog call.proc_no call.args)
 
 -- What isn't a call ends its connection. The reading of a message never wants memory.
 abbrev pub asked_by_fault : CallFault → Asked
-asked_by_fault NotCall = Ends
-asked_by_fault Short = Ends
-asked_by_fault (RpcMismatch xid) = Says xid (mismatched xid)
-asked_by_fault (BadCred xid) = Says xid (denied xid AUTH_BADCRED)
-asked_by_fault (RejectedCred xid) = Says xid (denied xid AUTH_REJECTEDCRED)
-asked_by_fault (Memory xid) = Ends
+asked_by_fault NotCall = asked.Close
+asked_by_fault Short = asked.Close
+asked_by_fault (RpcMismatch xid) = asked.Reply xid (rpc_mismatch_text xid)
+asked_by_fault (BadCred xid) = asked.Reply xid (denial_text xid auth_bad_cred)
+asked_by_fault (RejectedCred xid) = asked.Reply xid (denial_text xid auth_rejected_cred)
+asked_by_fault (Memory xid) = asked.Close
 
 abbrev pub asked_by : Result CallText CallFault → Asked
 asked_by (Ok call) = asked_by_call call
@@ -79,30 +76,30 @@ asked_of message = asked_by (call_of message)
 
 -- no more data than a WRITE may have
 abbrev pub IsFew : Asked → Type 0
-IsFew Ends = Unit {0}
-IsFew (Says xid reply) = Unit {0}
-IsFew (Reads xid args) = Unit {0}
-IsFew (Writes xid args) = length args.data ≤ 1048576
+IsFew asked.Close = Unit {0}
+IsFew (asked.Reply xid reply) = Unit {0}
+IsFew (asked.Read xid args) = Unit {0}
+IsFew (asked.Write xid args) = length args.data ≤ 1048576
 
 -- whether bytes are a handle of this gateway: the last 16 of its 32 bytes are the digest of the first 16
 abbrev pub is_handle : List ℕ → Bool
 is_handle bytes = length bytes == 32 && bytes_eq (md5 (take 16 bytes)) (drop 16 bytes)
 
 -- the status by which a request of a file is refused for its handle, where file 4 is in the tree or isn't
-abbrev pub bars : Bool → List ℕ → Option ℕ
-bars in_tree handle =
-    if not (is_handle handle) then Some NFS3ERR_BADHANDLE
-    else if not (in_tree && bytes_eq handle (handle_text 4 1)) then Some NFS3ERR_STALE
+abbrev pub handle_status : Bool → List ℕ → Option ℕ
+handle_status in_tree handle =
+    if not (is_handle handle) then Some badhandle
+    else if not (in_tree && bytes_eq handle (handle_text 4 1)) then Some stale
     else None
 
-abbrev pub miscounts : WriteArgs → Option ℕ
-miscounts q = if q.count == length q.data then None else Some NFS3ERR_INVAL
+abbrev pub count_status : WriteArgs → Option ℕ
+count_status q = if q.count == length q.data then None else Some inval
 
 -- the first refusal decides
-abbrev pub or_then : Option ℕ → Option ℕ → Option ℕ
-or_then (Some status) later = Some status
-or_then None later = later
+abbrev pub first_status : Option ℕ → Option ℕ → Option ℕ
+first_status (Some status) later = Some status
+first_status None later = later
 
 -- the status by which a WRITE is refused before its range is looked at
 abbrev pub refusal_of : Bool → WriteArgs → Option ℕ
-refusal_of in_tree q = or_then (bars in_tree q.handle) (miscounts q)
+refusal_of in_tree q = first_status (handle_status in_tree q.handle) (count_status q)

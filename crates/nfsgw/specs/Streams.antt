@@ -3,11 +3,11 @@ use Rattle.std.specs.Prelude.{◌≡◌, ℕ, ◌≤◌, List, [], ◌++◌, len
 use Rattle.rpc_record.specs.declared.fault.FrameFault.{FrameFault}
 use Rattle.rpc_record.specs.Records.{Open, Fault, Whole, front}
 use Rattle.rpc_record.specs.Assembly.{Assembly}
-use Rattle.nfsgw.specs.declared.stream.Heard.{Heard}
-use Rattle.nfsgw.specs.declared.stream.Heard.TheVariants.{More, Record, Broken}
+use Rattle.nfsgw.specs.declared.stream.StreamStep.{StreamStep}
+use Rattle.nfsgw.specs.declared.stream.StreamStep.TheVariants.{More, Record, Broken}
 
 -- All of the piece was taken, or what completes a record; or a header is at fault.
-abbrev pub IsHeard : Heard → List ℕ → List ℕ → List ℕ → Type 0
+abbrev pub IsHeard : StreamStep → List ℕ → List ℕ → List ℕ → Type 0
 IsHeard More old piece new = (front (old ++ piece) ≡ Open) × (new ≡ old ++ piece)
 IsHeard (Record taken message) old piece new = (front (old ++ piece) ≡ Whole message (drop taken piece)) × (taken ≤ length piece) × (new ≡ [])
 IsHeard Broken old piece new = (fault : FrameFault) × (front (old ++ piece) ≡ Fault fault)

@@ -2,18 +2,19 @@
 use Rattle.std.specs.Prelude.{ℕ, ◌+◌, ◌^◌, min, nat_le, Bool, true, false, List, [], ◌∷◌, ◌++◌, length, Option, Some, None}
 use Rattle.gw_model.specs.declared.limits.Limits.{Limits}
 use Rattle.gw_model.specs.declared.Stable.TheVariants.{Unstable}
-use Rattle.gw_model.specs.Ahead.{Ahead, Called, Good, Bad, next_call, refused, past_refusal}
-use Rattle.gw_model.specs.File.{Body, NotWritten, Gave, NotGiven, SystemErr, Silence, Answer, File, Step, opened, content}
-use Rattle.gw_model.specs.Admission.{io, write, WriteRequest, read, ReadRequest, pump}
+use Rattle.gw_model.specs.Ahead.{Outcomes, CallResult, Good, Bad, next_call, is_refused, past_refusal}
+use Rattle.gw_model.specs.File.{Body, NotWritten, Gave, NotGiven, SystemErr, Silence, Answer, File, Step, opened_file, content}
+use Rattle.gw_model.specs.Admission.{write_step, WriteRequest, read_step, ReadRequest, pump_step}
+use Rattle.gw_model.specs.Statuses.{io}
 use Rattle.gw_model.specs.Views.{raised}
-use Rattle.gw_model.specs.Writer.{turn, range_of}
+use Rattle.gw_model.specs.Writer.{turn_step, range_of}
 use Rattle.gw_model.specs.Ending.{Ended, history_of}
-use Rattle.tickets.specs.Desk.{TicketId, DeskState, new_desk, owed, issued, dropped, answered, cancelled}
+use Rattle.tickets.specs.Desk.{TicketId, DeskState, new_desk, waiting_ticket, with_issued, with_dropped, with_answered, with_cancelled}
 use Rattle.file_cell.specs.History.{history_text}
-use Rattle.nfsgw.specs.Text.{reply_bytes, reply_line, closed_line}
+use Rattle.nfsgw.specs.Replies.{reply_bytes, reply_line, closed_line}
 use Rattle.nfsgw.specs.declared.call.ReadCall.{ReadCall}
 use Rattle.nfsgw.specs.declared.call.WriteCall.{WriteCall}
-use Rattle.nfsgw.specs.Acts.{Act, Make, Begins, Says, Writes, Reads, Ends, Turns, Pumps}
+use Rattle.nfsgw.specs.Acts.{Act, CreateFile, BeginEvent, Reply, WriteFile, ReadFile, CloseConnection, TurnFile, PumpFile}
 
 pub record World : Type 0 where
   -- what the file's body holds while the file has no context
@@ -22,57 +23,57 @@ pub record World : Type 0 where
   -- the tickets issued, and those that wait for an answer
   pub desk : DeskState
 
-abbrev pub start : List ℕ → World
-start body = record { body = body; opened = None; desk = new_desk }
+abbrev pub world_at_start : List ℕ → World
+world_at_start body = record { body = body; opened = None; desk = new_desk }
 
 -- what the body holds
 abbrev pub body_in : List ℕ → Option File → List ℕ
 body_in body None = body
 body_in body (Some f) = content f
 
-abbrev pub body_of : World → List ℕ
-body_of w = body_in w.body w.opened
+abbrev pub world_body : World → List ℕ
+world_body w = body_in w.body w.opened
 
 -- what an act leaves, the text that it writes, whether it ends the run, and the outcomes that are left
-pub record Turned : Type 0 where
+pub record ActResult : Type 0 where
   pub world : World
   pub text : List ℕ
   pub stopped : Bool
-  pub ahead : Ahead
+  pub ahead : Outcomes
 
-abbrev pub does : World → List ℕ → Ahead → Turned
-does w text t = record { world = w; text = text; stopped = false; ahead = t }
+abbrev pub act_result : World → List ℕ → Outcomes → ActResult
+act_result w text t = record { world = w; text = text; stopped = false; ahead = t }
 
 -- answers: each is a reply where its ticket waits, which then waits no more
 
 -- the reply's line, by the ticket that waits
-abbrev pub told_to : Option TicketId → Body → List ℕ
-told_to None body = []
-told_to (Some t) Silence = []
-told_to (Some t) body = reply_line t.conn (reply_bytes t.xid body)
+abbrev pub answer_line : Option TicketId → Body → List ℕ
+answer_line None body = []
+answer_line (Some t) Silence = []
+answer_line (Some t) body = reply_line t.conn (reply_bytes t.xid body)
 
-abbrev pub spent : Body → ℕ → DeskState → DeskState
-spent Silence n d = dropped n d
-spent body n d = answered n d
+abbrev pub desk_after : Body → ℕ → DeskState → DeskState
+desk_after Silence n d = with_dropped n d
+desk_after body n d = with_answered n d
 
 -- what answers leave of a desk, and the lines that they write
-pub record Sent : Type 0 where
+pub record SendResult : Type 0 where
   pub desk : DeskState
   pub text : List ℕ
 
-abbrev pub send : DeskState → List Answer → Sent
-send d [] = record { desk = d; text = [] }
-send d (a ∷ rest) = let s = send (spent a.body a.ticket d) rest in record { desk = s.desk; text = told_to (owed a.ticket d) a.body ++ s.text }
+abbrev pub send_result : DeskState → List Answer → SendResult
+send_result d [] = record { desk = d; text = [] }
+send_result d (a ∷ rest) = let s = send_result (desk_after a.body a.ticket d) rest in record { desk = s.desk; text = answer_line (waiting_ticket a.ticket d) a.body ++ s.text }
 
-abbrev pub sends : World → List Answer → Ahead → Turned
-sends w answers t = let s = send w.desk answers in does (record w { desk = s.desk }) s.text t
+abbrev pub answers_result : World → List Answer → Outcomes → ActResult
+answers_result w answers t = let s = send_result w.desk answers in act_result (record w { desk = s.desk }) s.text t
 
-abbrev pub answer : World → ℕ → Body → Ahead → Turned
-answer w ticket body t = sends w (record { ticket = ticket; body = body } ∷ []) t
+abbrev pub answer_result : World → ℕ → Body → Outcomes → ActResult
+answer_result w ticket body t = answers_result w (record { ticket = ticket; body = body } ∷ []) t
 
 -- what a step of the open file leaves
-abbrev pub of_step : World → Step → Turned
-of_step w s = sends (record w { opened = Some s.file }) s.answers s.ahead
+abbrev pub file_step_result : World → Step → ActResult
+file_step_result w s = answers_result (record w { opened = Some s.file }) s.answers s.ahead
 
 -- The defaults of the settings.
 abbrev pub defaults : Limits
@@ -81,32 +82,32 @@ defaults = record { commits = 1024; history = 131072; line_slots = 8; memory_cap
 -- a request
 
 -- the next request of the event begins, and the next event; both are numbered from 1, up to the greatest u64
-abbrev pub at_request : Ahead → Ahead
+abbrev pub at_request : Outcomes → Outcomes
 at_request t = record t { request = raised t.request }
 
-abbrev pub at_event : Ahead → Ahead
+abbrev pub at_event : Outcomes → Outcomes
 at_event t = record t { event = raised t.event; request = 0 }
 
 -- it gets a ticket
-abbrev pub ask : ℕ → ℕ → World → World
-ask conn xid w = record w { desk = issued conn xid w.desk }
+abbrev pub with_request : ℕ → ℕ → World → World
+with_request conn xid w = record w { desk = with_issued conn xid w.desk }
 
 -- memory is refused for a request: the note of that is taken up (RFC 5531 section 9, SYSTEM_ERR)
-abbrev pub no_memory : World → ℕ → Ahead → Turned
-no_memory w ticket t = answer w ticket SystemErr (past_refusal t)
+abbrev pub refusal_result : World → ℕ → Outcomes → ActResult
+refusal_result w ticket t = answer_result w ticket SystemErr (past_refusal t)
 
 -- by whether memory is refused as it begins, which takes the ticket of its number
-abbrev pub asked : Bool → World → ℕ → Ahead → Turned → Turned
-asked true w ticket t goes = no_memory w ticket t
-asked false w ticket t goes = goes
+abbrev pub unless_refused : Bool → World → ℕ → Outcomes → ActResult → ActResult
+unless_refused true w ticket t goes = refusal_result w ticket t
+unless_refused false w ticket t goes = goes
 
 -- one that has the last ticket goes on so, unless memory is refused
-abbrev pub tried : (World → Ahead → Turned) → World → Ahead → Turned
-tried go w t = asked (refused t) w w.desk.last t (go w t)
+abbrev pub request_result : (World → Outcomes → ActResult) → World → Outcomes → ActResult
+request_result go w t = unless_refused (is_refused t) w w.desk.last t (go w t)
 
 -- a request of this connection and number begins, and goes on so
-abbrev pub begun : ℕ → ℕ → (World → Ahead → Turned) → World → Ahead → Turned
-begun conn xid go w t = tried go (ask conn xid w) (at_request t)
+abbrev pub new_request_result : ℕ → ℕ → (World → Outcomes → ActResult) → World → Outcomes → ActResult
+new_request_result conn xid go w t = request_result go (with_request conn xid w) (at_request t)
 
 -- a reply that is made at once
 
@@ -114,114 +115,114 @@ abbrev pub text_to : Option TicketId → List ℕ → List ℕ
 text_to None reply = []
 text_to (Some t) reply = reply_line t.conn reply
 
-abbrev pub say : List ℕ → World → Ahead → Turned
-say reply w t = does (record w { desk = answered w.desk.last w.desk }) (text_to (owed w.desk.last w.desk) reply) t
+abbrev pub reply_result : List ℕ → World → Outcomes → ActResult
+reply_result reply w t = act_result (record w { desk = with_answered w.desk.last w.desk }) (text_to (waiting_ticket w.desk.last w.desk) reply) t
 
 -- WRITE
 
-abbrev pub write_request : WriteCall → ℕ → WriteRequest
-write_request call ticket = record { offset = call.offset; bytes = call.content; level = Unstable; ticket = ticket; moment = 0 }
+abbrev pub call_write_request : WriteCall → ℕ → WriteRequest
+call_write_request call ticket = record { offset = call.offset; bytes = call.content; level = Unstable; ticket = ticket; moment = 0 }
 
 -- by what the call did that takes the body from the store, and whether memory is refused then
-abbrev pub opened_for : Called → Bool → World → WriteRequest → Ahead → Turned
-opened_for (Bad kept) refusal w q t = answer w q.ticket (NotWritten io) t
-opened_for Good true w q t = no_memory w q.ticket t
-opened_for Good false w q t = of_step w (write defaults (opened w.body None 0) q t)
+abbrev pub first_write_result : CallResult → Bool → World → WriteRequest → Outcomes → ActResult
+first_write_result (Bad kept) refusal w q t = answer_result w q.ticket (NotWritten io) t
+first_write_result Good true w q t = refusal_result w q.ticket t
+first_write_result Good false w q t = file_step_result w (write_step defaults (opened_file w.body None 0) q t)
 
 -- the first write opens the file
-abbrev pub write_in : Option File → World → WriteRequest → Ahead → Turned
-write_in (Some f) w q t = of_step w (write defaults f q t)
-write_in None w q t = let c = next_call t in opened_for c.called (refused c.ahead) w q c.ahead
+abbrev pub write_act_result : Option File → World → WriteRequest → Outcomes → ActResult
+write_act_result (Some f) w q t = file_step_result w (write_step defaults f q t)
+write_act_result None w q t = let c = next_call t in first_write_result c.called (is_refused c.ahead) w q c.ahead
 
 -- READ
 
-abbrev pub read_request : ReadCall → ℕ → ReadRequest
-read_request call ticket = record { offset = call.offset; count = call.count; ticket = ticket; moment = 0 }
+abbrev pub call_read_request : ReadCall → ℕ → ReadRequest
+call_read_request call ticket = record { offset = call.offset; count = call.count; ticket = ticket; moment = 0 }
 
 -- what is stored of a range, and whether it ends at the stored length or behind it
 abbrev pub part_of : ℕ → ℕ → List ℕ → Body
 part_of offset count bytes = Gave (range_of offset count bytes) (nat_le (length bytes) (offset + count))
 
 -- by what the read of the body did, and whether memory is refused then
-abbrev pub read_stored : Called → Bool → World → ReadRequest → Ahead → Turned
-read_stored (Bad kept) refusal w q t = answer w q.ticket (NotGiven io) t
-read_stored Good true w q t = no_memory w q.ticket t
-read_stored Good false w q t = answer w q.ticket (part_of q.offset (min q.count (2 ^ 20)) w.body) t
+abbrev pub stored_read_result : CallResult → Bool → World → ReadRequest → Outcomes → ActResult
+stored_read_result (Bad kept) refusal w q t = answer_result w q.ticket (NotGiven io) t
+stored_read_result Good true w q t = refusal_result w q.ticket t
+stored_read_result Good false w q t = answer_result w q.ticket (part_of q.offset (min q.count (2 ^ 20)) w.body) t
 
 -- one that finds the file closed reads what is stored
-abbrev pub read_in : Option File → World → ReadRequest → Ahead → Turned
-read_in (Some f) w q t = of_step w (read defaults f q t)
-read_in None w q t = let c = next_call t in read_stored c.called (refused c.ahead) w q c.ahead
+abbrev pub read_act_result : Option File → World → ReadRequest → Outcomes → ActResult
+read_act_result (Some f) w q t = file_step_result w (read_step defaults f q t)
+read_act_result None w q t = let c = next_call t in stored_read_result c.called (is_refused c.ahead) w q c.ahead
 
 -- steps of the file
 
 -- the `file` line creates the body, and the run ends where that fails
-abbrev pub made : Called → World → Ahead → Turned
-made Good w t = does w [] t
-made (Bad kept) w t = record (does w [] t) { stopped = true }
+abbrev pub creation_result : CallResult → World → Outcomes → ActResult
+creation_result Good w t = act_result w [] t
+creation_result (Bad kept) w t = record (act_result w [] t) { stopped = true }
 
 -- a turn and a pump are events of their own
-abbrev pub turn_in : Option File → World → Ahead → Turned
-turn_in None w t = does w [] t
-turn_in (Some f) w t = of_step w (turn f t)
+abbrev pub turn_act_result : Option File → World → Outcomes → ActResult
+turn_act_result None w t = act_result w [] t
+turn_act_result (Some f) w t = file_step_result w (turn_step f t)
 
-abbrev pub pump_in : Option File → World → Ahead → Turned
-pump_in None w t = does w [] t
-pump_in (Some f) w t = of_step w (pump defaults f t)
+abbrev pub pump_act_result : Option File → World → Outcomes → ActResult
+pump_act_result None w t = act_result w [] t
+pump_act_result (Some f) w t = file_step_result w (pump_step defaults f t)
 
 -- a connection ends: none of its requests is answered any more
-abbrev pub close : World → ℕ → Ahead → Turned
-close w conn t = does (record w { desk = cancelled conn w.desk }) (closed_line conn) t
+abbrev pub closing_result : World → ℕ → Outcomes → ActResult
+closing_result w conn t = act_result (record w { desk = with_cancelled conn w.desk }) (closed_line conn) t
 
-abbrev pub saying : List ℕ → World → Ahead → Turned
-saying reply w t = say reply w t
+abbrev pub reply_action : List ℕ → World → Outcomes → ActResult
+reply_action reply w t = reply_result reply w t
 
-abbrev pub writing : WriteCall → World → Ahead → Turned
-writing call w t = write_in w.opened w (write_request call w.desk.last) t
+abbrev pub write_action : WriteCall → World → Outcomes → ActResult
+write_action call w t = write_act_result w.opened w (call_write_request call w.desk.last) t
 
-abbrev pub reading : ReadCall → World → Ahead → Turned
-reading call w t = read_in w.opened w (read_request call w.desk.last) t
+abbrev pub read_action : ReadCall → World → Outcomes → ActResult
+read_action call w t = read_act_result w.opened w (call_read_request call w.desk.last) t
 
-unfoldable pub next : World → Act → Ahead → Turned
-next w Make t = let c = next_call t in made c.called w c.ahead
-next w Begins t = does w [] (at_event t)
-next w (Says conn xid reply) t = begun conn xid (saying reply) w t
-next w (Writes conn call) t = begun conn call.xid (writing call) w t
-next w (Reads conn call) t = begun conn call.xid (reading call) w t
-next w (Ends conn) t = close w conn t
-next w Turns t = turn_in w.opened w (at_event t)
-next w Pumps t = pump_in w.opened w (at_event t)
+unfoldable pub next : World → Act → Outcomes → ActResult
+next w CreateFile t = let c = next_call t in creation_result c.called w c.ahead
+next w BeginEvent t = act_result w [] (at_event t)
+next w (Reply conn xid reply) t = new_request_result conn xid (reply_action reply) w t
+next w (WriteFile conn call) t = new_request_result conn call.xid (write_action call) w t
+next w (ReadFile conn call) t = new_request_result conn call.xid (read_action call) w t
+next w (CloseConnection conn) t = closing_result w conn t
+next w TurnFile t = turn_act_result w.opened w (at_event t)
+next w PumpFile t = pump_act_result w.opened w (at_event t)
 
 -- a whole run
 
 -- all that comes of the acts: the text, what the body then holds, whether a failed call ended the run, and the
 -- outcomes that are left
-pub record Told : Type 0 where
+pub record RunOutput : Type 0 where
   pub text : List ℕ
   pub body : List ℕ
   pub stopped : Bool
-  pub ahead : Ahead
+  pub ahead : Outcomes
 
-abbrev pub onto : List ℕ → Told → Told
-onto text told = record told { text = text ++ told.text }
+abbrev pub with_text : List ℕ → RunOutput → RunOutput
+with_text text told = record told { text = text ++ told.text }
 
 -- the history of the open context
 abbrev pub end_text : Option File → List ℕ
 end_text None = []
 end_text (Some f) = history_text 4 (history_of f Ended)
 
-abbrev pub told_at_end : World → Ahead → Told
-told_at_end w t = record { text = end_text w.opened; body = body_of w; stopped = false; ahead = t }
+abbrev pub end_output : World → Outcomes → RunOutput
+end_output w t = record { text = end_text w.opened; body = world_body w; stopped = false; ahead = t }
 
-abbrev pub told_stopped : Turned → Told
-told_stopped s = record { text = s.text; body = body_of s.world; stopped = true; ahead = s.ahead }
+abbrev pub stopped_output : ActResult → RunOutput
+stopped_output s = record { text = s.text; body = world_body s.world; stopped = true; ahead = s.ahead }
 
-abbrev pub told_then : Bool → Turned → Told → Told
-told_then true s later = told_stopped s
-told_then false s later = onto s.text later
+abbrev pub output_then : Bool → ActResult → RunOutput → RunOutput
+output_then true s later = stopped_output s
+output_then false s later = with_text s.text later
 
 -- the fold of `next`, up to where a failed call ends it, and then the end histories
-abbrev pub told_of : World → List Act → Ahead → Told
-told_of w [] t = told_at_end w t
-told_of w (act ∷ acts) t =
-    let s = next w act t in told_then s.stopped s (told_of s.world acts s.ahead)
+abbrev pub run_output : World → List Act → Outcomes → RunOutput
+run_output w [] t = end_output w t
+run_output w (act ∷ acts) t =
+    let s = next w act t in output_then s.stopped s (run_output s.world acts s.ahead)

@@ -1,10 +1,10 @@
 // The desk sends answers, and gives the lines that they write.
 ghost use Rattle.std.specs.Prelude.{◌≡◌, ◌++◌, ◌∷◌, [], IfOk, IsErr, OnOk, OnErr, string_bytes};
-ghost use Rattle.admit.specs.Answers.{answer_of, IsPlain};
-ghost use Rattle.admit.specs.Calls.{answers_of};
+ghost use Rattle.tickets.specs.Answers.{IsPlain, answer_of};
+ghost use Rattle.admit.specs.Calls.{verdict_answers};
 ghost use Rattle.tickets.specs.declared.answer.Body.TheVariants.{Read as ReadBody, Write as WriteBody};
-ghost use Rattle.nfsgw.specs.Answering.{ArePlainIn};
-ghost use Rattle.nfsgw.specs.World.{send};
+ghost use Rattle.nfsgw.specs.WorldSteps.{IsPlainVerdict};
+ghost use Rattle.nfsgw.specs.World.{send_result};
 
 use crate::reply::reply_text;
 use admit::Verdict;
@@ -43,9 +43,9 @@ pub fn read_answer(ticket: Ticket, status: u32, eof: bool, bytes: Vec<u8>) -> An
 /// Sends an answer, and gives what it writes. Takes memory; the ticket waits no more where it is refused too.
 pub fn send_one(alloc: Global, desk: &mut ReplyDesk, answer: Answer) -> Result<String, AllocError>
     requires plain { IsPlain answer.body }
-    ensures desk { desk.new ≡ (send desk.old (answer_of answer ∷ [])).desk }
+    ensures desk { desk.new ≡ (send_result desk.old (answer_of answer ∷ [])).desk }
     ensures last { desk.new.last ≡ desk.old.last }
-    ensures text { IfOk result (λ text. string_bytes text ≡ (send desk.old (answer_of answer ∷ [])).text) }
+    ensures text { IfOk result (λ text. string_bytes text ≡ (send_result desk.old (answer_of answer ∷ [])).text) }
 {
     match desk.send(answer) {
         Sent::Reply { conn, xid, body } => reply_text(alloc, conn, xid, &body),
@@ -61,9 +61,9 @@ fn send_more(
     mut text: String,
 ) -> Result<String, AllocError>
     requires plain { IsPlain answer.body }
-    ensures desk { desk.new ≡ (send desk.old (answer_of answer ∷ [])).desk }
+    ensures desk { desk.new ≡ (send_result desk.old (answer_of answer ∷ [])).desk }
     ensures last { desk.new.last ≡ desk.old.last }
-    ensures text { IfOk result (λ all. string_bytes all ≡ string_bytes text ++ (send desk.old (answer_of answer ∷ [])).text) }
+    ensures text { IfOk result (λ all. string_bytes all ≡ string_bytes text ++ (send_result desk.old (answer_of answer ∷ [])).text) }
 {
     let line = send_one(alloc, desk, answer)?;
     text.push_str(line.as_str())?;
@@ -80,8 +80,9 @@ pub fn send_left<F: AppendFile, M: PendingMap>(
 ) -> Result<String, AllocError>
     ensures none_left { cell.new ≡ record cell.old { left = [] } }
     ensures last { desk.new.last ≡ desk.old.last }
-    ensures ok { OnOk result (desk.new ≡ (send desk.old cell.old.left).desk) }
-    ensures text { IfOk result (λ all. IfOk text (λ before. string_bytes all ≡ string_bytes before ++ (send desk.old cell.old.left).text)) }
+    ensures ok { OnOk result (desk.new ≡ (send_result desk.old cell.old.left).desk) }
+    ensures text { IfOk result (λ all. IfOk text (λ before.
+        string_bytes all ≡ string_bytes before ++ (send_result desk.old cell.old.left).text)) }
     ensures err { OnErr text (IsErr result) }
 {
     let mut text = text;
@@ -95,11 +96,15 @@ pub fn send_left<F: AppendFile, M: PendingMap>(
 }
 
 /// Sends what a request of an open file was answered.
-pub fn conclude(alloc: Global, desk: &mut ReplyDesk, verdict: Verdict) -> Result<String, AllocError>
-    requires plain { ArePlainIn verdict }
-    ensures desk { desk.new ≡ (send desk.old (answers_of verdict)).desk }
+pub fn send_verdict(
+    alloc: Global,
+    desk: &mut ReplyDesk,
+    verdict: Verdict,
+) -> Result<String, AllocError>
+    requires plain { IsPlainVerdict verdict }
+    ensures desk { desk.new ≡ (send_result desk.old (verdict_answers verdict)).desk }
     ensures last { desk.new.last ≡ desk.old.last }
-    ensures text { IfOk result (λ text. string_bytes text ≡ (send desk.old (answers_of verdict)).text) }
+    ensures text { IfOk result (λ text. string_bytes text ≡ (send_result desk.old (verdict_answers verdict)).text) }
 {
     match verdict {
         Verdict::Reply(answer) => send_one(alloc, desk, answer),

@@ -1,8 +1,8 @@
 // The lines of a transcript.
 ghost use Rattle.std.specs.Prelude.{◌≡◌, ◌↔◌, ◌==◌, ◌<◌, Bool, List, ℕ, Some, length, position, IfOk, IfSome};
 ghost use Rattle.std.specs.List.{list_all};
-ghost use Rattle.transcript.specs.Fields.{bytes_of};
-ghost use Rattle.nfsgw.specs.Grammar.{in_name, is_name as is_name_text, file_line as file_line_of, bytes_line, piece_in, other_line as other_line_of, line_of as line_of_text, IsLine};
+ghost use Rattle.transcript.specs.Fields.{hex_bytes};
+ghost use Rattle.nfsgw.specs.Grammar.{in_name, is_name as is_name_text, file_line as file_line_of, bytes_line, piece_in, other_line as other_line_of, grammar_line as line_of_text, IsLine};
 ghost use Rattle.nfsgw.specs.declared.grammar.Line.{Line as LineTerm};
 
 use std::alloc::AllocError;
@@ -87,7 +87,7 @@ fn fields_line<'a>(
     hex: &[u8],
     room: &'a mut Vec<u8>,
 ) -> Result<Option<Line<'a>>, AllocError>
-    ensures { IfOk result (λ line. line ≡ piece_in conn (bytes_of hex.now)) }
+    ensures { IfOk result (λ line. line ≡ piece_in conn (hex_bytes hex.now)) }
 {
     let Some(conn) = conn else {
         return Ok(None);
@@ -133,7 +133,7 @@ fn other_line<'a>(first: bool, text: &[u8]) -> Option<Line<'a>>
 
 /// The line that a text is, if it is one, as the first or as a later one. What it sends lies in the room. It fails only
 /// for want of memory.
-#[tactic(auto, unfolding(crate::specs::Grammar::line_of))]
+#[tactic(auto, unfolding(crate::specs::Grammar::grammar_line))]
 pub fn line_of<'a>(
     first: bool,
     text: &[u8],

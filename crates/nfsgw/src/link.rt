@@ -3,7 +3,7 @@ ghost use Rattle.std.specs.Prelude.{◌≡◌, OnOk, IfOk};
 ghost use Rattle.std.specs.Map.{set_value};
 ghost use Rattle.std.specs.Ordering.{nat_cmp};
 ghost use Rattle.std.specs.BTreeMap.{is_at};
-ghost use Rattle.nfsgw.specs.Links.{opened_by, link_at, link_of};
+ghost use Rattle.nfsgw.specs.Links.{opened_by, link_on, link_or_new};
 ghost use Rattle.nfsgw.specs.Outside.{link_after as link_after_of};
 ghost use Rattle.nfsgw.specs.declared.link.Link.TheVariants.{Closed};
 
@@ -27,8 +27,9 @@ pub fn take_link(
     links: &mut BTreeMap<u32, Link>,
     conn: u32,
 ) -> Result<Link, AllocError>
-    ensures link { IfOk result (λ link. link ≡ link_of (link_at conn links.old.entries)) }
-    ensures rest { OnOk result (links.new.entries ≡ set_value (is_at (nat_cmp conn)) (opened_by (link_at conn links.old.entries) conn links.old.entries) Closed) }
+    ensures link { IfOk result (λ link. link ≡ link_or_new (link_on conn links.old.entries)) }
+    ensures rest { OnOk result (links.new.entries
+        ≡ set_value (is_at (nat_cmp conn)) (opened_by (link_on conn links.old.entries) conn links.old.entries) Closed) }
 {
     if let Some(link) = links.get_mut(&conn) {
         return Ok(mem::replace(link, Link::Closed));

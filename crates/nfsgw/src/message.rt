@@ -3,14 +3,19 @@ ghost use Rattle.std.specs.Prelude.{◌≡◌, ◌≢◌, ℕ, IfOk, IfErr, OnOk
 ghost use Rattle.rpc_msg.specs.declared.fault.CallFault.{CallFault};
 ghost use Rattle.rpc_msg.specs.Views.{call_view};
 ghost use Rattle.nfsgw.specs.declared.message.Asked.{Asked};
-ghost use Rattle.nfsgw.specs.Messages.{xid_of, is_served, reply_to, mismatch_text, write_with, asked_with, asked_by_call, asked_by_fault, asked_of, bars, IsFew, refusal_of};
-ghost use Rattle.nfsgw.specs.Asking.{Gives, HasXid, IsAskedBy};
+ghost use Rattle.nfsgw.specs.Messages.{is_served, reply_to, mismatch_text, write_with, asked_with, asked_by_call, asked_by_fault, asked_of, handle_status, IsFew, refusal_of};
+ghost use Rattle.nfsgw.specs.MessageFaults.{IsAskedOr, HasXid, IsAskedBy};
 
 use bytes::Bytes;
+use gw_model::status::{NFS3ERR_BADHANDLE, NFS3ERR_INVAL, NFS3ERR_STALE};
 use gw_model::{FileId, Stable};
 use handles::file_of;
-use nfs_types::status::{NFS3ERR_BADHANDLE, NFS3ERR_INVAL, NFS3ERR_STALE};
+use nfs_wire::program::{MOUNT_PROGRAM, NFS_PROGRAM, NFS_VERSION};
 use nfs_wire::{Args, ArgsFault, read_args};
+use rpc_msg::numbers::{
+    AUTH_BADCRED, AUTH_REJECTEDCRED, GARBAGE_ARGS, PROC_UNAVAIL, PROG_MISMATCH, PROG_UNAVAIL,
+    SUCCESS,
+};
 use rpc_msg::{Call, CallFault, accepted_head, auth_error, read_call, rpc_mismatch};
 use std::alloc::{AllocError, Global};
 
@@ -39,11 +44,11 @@ pub struct WriteArgs {
 #[derive(Drop)]
 pub enum Asked {
     /// It is no call: its connection ends.
-    Ends,
+    Close,
     /// It is answered by this message at once.
-    Says { xid: u32, reply: Bytes },
-    Reads { xid: u32, args: ReadArgs },
-    Writes { xid: u32, args: WriteArgs },
+    Reply { xid: u32, reply: Bytes },
+    Read { xid: u32, args: ReadArgs },
+    Write { xid: u32, args: WriteArgs },
 }
 
 /// Want of memory for a request whose xid was read.
@@ -52,29 +57,7 @@ pub struct Refused {
     pub xid: u32,
 }
 
-// Statuses of an accepted reply (RFC 5531 section 9).
-const SUCCESS: u32 = 0;
-
-const PROG_UNAVAIL: u32 = 1;
-
-const PROG_MISMATCH: u32 = 2;
-
-const PROC_UNAVAIL: u32 = 3;
-
-const GARBAGE_ARGS: u32 = 4;
-
-// Why a credential isn't taken (RFC 5531 section 9).
-const AUTH_BADCRED: u32 = 1;
-
-const AUTH_REJECTEDCRED: u32 = 2;
-
-// The programs, both of version 3, and their procedures (RFC 1813 sections 2.2, 3.3, 5.1 and 5.2).
-const NFS_PROGRAM: u32 = 100_003;
-
-const MOUNT_PROGRAM: u32 = 100_005;
-
-const VERSION: u32 = 3;
-
+// The procedures that are served (RFC 1813 section 3.3).
 const NULL: u32 = 0;
 
 const READ: u32 = 6;
@@ -91,7 +74,6 @@ const FSID: u64 = 1;
 pub fn read_message(alloc: Global, message: Bytes) -> Result<Asked, Refused>
     ensures asked { IfOk result (λ a. a ≡ asked_of message) }
     ensures few { IfOk result IsFew }
-    ensures xid { IfErr result (λ e. e.xid ≡ xid_of message) }
     ensures asked_by { IfErr result (λ e. IsAskedBy (asked_of message) e.xid) }
 {
     match read_call(alloc, message) {
@@ -107,7 +89,7 @@ fn fault_asked(alloc: Global, fault: CallFault) -> Result<Asked, Refused>
     ensures xid { IfErr result (λ e. HasXid fault e.xid) }
 {
     match fault {
-        CallFault::NotCall | CallFault::Short => Ok(Asked::Ends),
+        CallFault::NotCall | CallFault::Short => Ok(Asked::Close),
         CallFault::RpcMismatch { xid } => reply(alloc, xid, &rpc_mismatch(xid)),
         CallFault::BadCred { xid } => reply(alloc, xid, &auth_error(xid, AUTH_BADCRED)),
         CallFault::RejectedCred { xid } => reply(alloc, xid, &auth_error(xid, AUTH_REJECTEDCRED)),
@@ -116,17 +98,17 @@ fn fault_asked(alloc: Global, fault: CallFault) -> Result<Asked, Refused>
 }
 
 fn reply(alloc: Global, xid: u32, message: &[u8]) -> Result<Asked, Refused>
-    ensures { Gives result xid (Asked.Says xid message.now) }
+    ensures { IsAskedOr result xid (Asked.Reply xid message.now) }
 {
     match Bytes::copy_from_slice(alloc, message) {
-        Ok(reply) => Ok(Asked::Says { xid, reply }),
+        Ok(reply) => Ok(Asked::Reply { xid, reply }),
         Err(_) => Err(Refused { xid }),
     }
 }
 
 // An accepted reply without results.
 fn status_reply(alloc: Global, xid: u32, stat: u32) -> Result<Asked, Refused>
-    ensures { Gives result xid (reply_to xid stat) }
+    ensures { IsAskedOr result xid (reply_to xid stat) }
 {
     reply(alloc, xid, &accepted_head(xid, stat))
 }
@@ -136,14 +118,14 @@ fn version_text(alloc: Global, xid: u32) -> Result<Vec<u8>, AllocError>
     ensures { IfOk result (λ text. text.items ≡ mismatch_text xid) }
 {
     let mut text = Vec::from_slice(alloc, &accepted_head(xid, PROG_MISMATCH))?;
-    text.extend_from_slice(&VERSION.to_be_bytes())?;
-    text.extend_from_slice(&VERSION.to_be_bytes())?;
+    text.extend_from_slice(&NFS_VERSION.to_be_bytes())?;
+    text.extend_from_slice(&NFS_VERSION.to_be_bytes())?;
     Ok(text)
 }
 
 // The reply to a call of another version than 3.
 fn version_reply(alloc: Global, xid: u32) -> Result<Asked, Refused>
-    ensures { Gives result xid (Asked.Says xid (mismatch_text xid)) }
+    ensures { IsAskedOr result xid (Asked.Reply xid (mismatch_text xid)) }
 {
     match version_text(alloc, xid) {
         Ok(text) => reply(alloc, xid, &text),
@@ -158,13 +140,13 @@ fn is_served(prog: u32, proc_no: u32) -> bool
 }
 
 fn call_asked(alloc: Global, call: Call) -> Result<Asked, Refused>
-    ensures { Gives result call.xid (asked_by_call (call_view call)) }
+    ensures { IsAskedOr result call.xid (asked_by_call (call_view call)) }
 {
     let xid = call.xid;
     if call.prog != NFS_PROGRAM && call.prog != MOUNT_PROGRAM {
         return status_reply(alloc, xid, PROG_UNAVAIL);
     }
-    if call.vers != VERSION {
+    if call.vers != NFS_VERSION {
         return version_reply(alloc, xid);
     }
     if !is_served(call.prog, call.proc_no) {
@@ -179,7 +161,7 @@ fn call_asked(alloc: Global, call: Call) -> Result<Asked, Refused>
 
 // What is asked for by arguments of a procedure that is served.
 fn args_asked(alloc: Global, xid: u32, args: Args) -> Result<Asked, Refused>
-    ensures { Gives result xid (asked_with xid args) }
+    ensures { IsAskedOr result xid (asked_with xid args) }
 {
     match args {
         Args::Null | Args::MountNull => status_reply(alloc, xid, SUCCESS),
@@ -193,20 +175,20 @@ fn args_asked(alloc: Global, xid: u32, args: Args) -> Result<Asked, Refused>
                 offset,
                 count,
             };
-            Ok(Asked::Reads { xid, args })
+            Ok(Asked::Read { xid, args })
         }
         Args::Write {
             handle,
             offset,
             count,
             stable,
-            bytes,
+            data,
         } => {
             let args = WriteArgs {
                 handle,
                 offset,
                 count,
-                data: bytes,
+                data,
             };
             write_asked(alloc, xid, stable, args)
         }
@@ -215,18 +197,18 @@ fn args_asked(alloc: Global, xid: u32, args: Args) -> Result<Asked, Refused>
 }
 
 fn write_asked(alloc: Global, xid: u32, stable: Stable, args: WriteArgs) -> Result<Asked, Refused>
-    ensures { Gives result xid (write_with xid stable args) }
+    ensures { IsAskedOr result xid (write_with xid stable args) }
 {
     if stable != Stable::Unstable {
         return status_reply(alloc, xid, PROC_UNAVAIL);
     }
-    Ok(Asked::Writes { xid, args })
+    Ok(Asked::Write { xid, args })
 }
 
 /// The status by which a request of a file is refused for its handle (RFC 1813 section 2.6), by whether file 4 is in the
 /// tree.
 pub fn handle_refusal(handle: &[u8], in_tree: bool) -> Option<u32>
-    ensures { result ≡ bars in_tree handle.now }
+    ensures { result ≡ handle_status in_tree handle.now }
 {
     let Some((file, fsid)) = file_of(handle) else {
         return Some(NFS3ERR_BADHANDLE);
@@ -342,7 +324,7 @@ mod tests {
     fn says(alloc: Global, message: Bytes, reply: &[u32]) -> Result<bool, Fail> {
         let want = self::message(alloc, reply, &[])?;
         Ok(match read_message(alloc, message)? {
-            Asked::Says { xid, reply } => xid == 9 && reply.as_slice() == want.as_slice(),
+            Asked::Reply { xid, reply } => xid == 9 && reply.as_slice() == want.as_slice(),
             _ => false,
         })
     }
@@ -391,9 +373,9 @@ mod tests {
         assert!(rt; says_at(alloc, &NULL_OF_NFS, 7, 401, &[9, 1, 1, 1, 1])?);
         // A reply, and three bytes.
         let reply = message(alloc, &[9, 1, 0, 0, 0, 0], &[])?;
-        assert!(rt; matches!(read_message(alloc, reply)?, Asked::Ends));
+        assert!(rt; matches!(read_message(alloc, reply)?, Asked::Close));
         let short = Bytes::copy_from_slice(alloc, &[0, 0, 0])?;
-        assert!(rt; matches!(read_message(alloc, short)?, Asked::Ends));
+        assert!(rt; matches!(read_message(alloc, short)?, Asked::Close));
         Ok(())
     }
 
@@ -402,7 +384,7 @@ mod tests {
         let alloc = rt.alloc();
         let call = message(alloc, &WRITE_CALL, &[])?;
         let kept = call.clone()?;
-        let Asked::Writes { xid, args } = read_message(alloc, call)? else {
+        let Asked::Write { xid, args } = read_message(alloc, call)? else {
             assert!(rt; false);
             return Ok(());
         };
@@ -420,7 +402,7 @@ mod tests {
     fn reads_a_read(rt: HostRuntime) -> Result<(), Fail> {
         let alloc = rt.alloc();
         let call = message(alloc, &READ_CALL, &[])?;
-        let Asked::Reads { xid, args } = read_message(alloc, call)? else {
+        let Asked::Read { xid, args } = read_message(alloc, call)? else {
             assert!(rt; false);
             return Ok(());
         };

@@ -1,15 +1,15 @@
 // Calls on the store for the one file: its body is taken, and read where nobody has taken it.
 ghost use Rattle.std.specs.Prelude.{◌≡◌, ◌≢◌, ◌<◌, min, IfErr, IfOk};
 ghost use Rattle.gw_model.specs.declared.object.ObjectId.{ObjectId};
-ghost use Rattle.append_store.specs.State.{IsThere, bytes_of};
-ghost use Rattle.nfsgw.specs.Opening.{IsOpened, IsPart, Fails};
-ghost use Rattle.nfsgw.specs.Outside.{body_id};
+ghost use Rattle.append_store.specs.State.{IsThere};
+ghost use Rattle.nfsgw.specs.Opening.{IsOpened, IsStoredPart, FailsClosed};
+ghost use Rattle.nfsgw.specs.Outside.{body_id, store_view, OthersStay};
 
 use crate::limits::{LINE_SLOTS, default_limits};
 use append_store::{AppendFile, Cluster};
 use file_cell::FileCell;
 use gw_model::{FileId, ObjectId, Outcome, Trace};
-use job_line::line;
+use job_line::open_line;
 use range_map::SortedVecMap;
 use std::alloc::Global;
 
@@ -24,9 +24,6 @@ pub const BODY: ObjectId = ObjectId::Body {
 
 /// The most bytes that a READ gives.
 const MOST: u32 = 1_048_576;
-
-/// The context of a file whose body is of this type.
-pub type Cell<F> = FileCell<F, SortedVecMap>;
 
 /// Why a request of a closed file wasn't done.
 #[derive(Clone, Copy, Debug, PartialEq, Eq)]
@@ -46,11 +43,13 @@ pub fn open_file<C: Cluster>(
 ) -> Result<FileCell<C::File, SortedVecMap>, Failure>
     requires there { C.File.tells → IsThere (C.at cluster.old body_id) }
     requires noted { 0 < trace.old.room }
-    ensures opened { IfOk result (λ c. IsOpened C.File.tells c (C.at cluster.old body_id) (C.at cluster.new body_id) (C.count cluster.old) (C.count cluster.new) trace.old trace.new) }
-    ensures failed { IfErr result (λ f. Fails C.File.tells f (C.at cluster.old body_id) (C.at cluster.new body_id) (C.count cluster.old) (C.count cluster.new) trace.old trace.new) }
-    ensures others { C.File.tells → (q : ObjectId) → q ≢ body_id → C.at cluster.new q ≡ C.at cluster.old q }
+    ensures opened { IfOk result (λ c. IsOpened C.File.tells c
+        (store_view C.Cluster cluster.old) (store_view C.Cluster cluster.new) trace.old trace.new) }
+    ensures failed { IfErr result (λ f. FailsClosed C.File.tells f
+        (store_view C.Cluster cluster.old) (store_view C.Cluster cluster.new) trace.old trace.new) }
+    ensures others { OthersStay C.Cluster C.File.tells cluster.old cluster.new }
 {
-    let Ok(ends) = line(alloc, LINE_SLOTS) else {
+    let Ok(ends) = open_line(alloc, LINE_SLOTS) else {
         return Err(Failure::Memory);
     };
     let Ok(body) = cluster.take_file(BODY) else {
@@ -88,8 +87,10 @@ pub fn read_body<C: Cluster>(
 ) -> Result<Part, Failure>
     requires there { C.File.tells → IsThere (C.at cluster.old body_id) }
     requires noted { 0 < trace.old.room }
-    ensures part { IfOk result (λ part. IsPart C.File.tells part offset (min count 1048576) (bytes_of (C.at cluster.old body_id)) (C.count cluster.old) (C.count cluster.new) trace.old trace.new) }
-    ensures failed { IfErr result (λ f. Fails C.File.tells f (C.at cluster.old body_id) (C.at cluster.new body_id) (C.count cluster.old) (C.count cluster.new) trace.old trace.new) }
+    ensures part { IfOk result (λ part. IsStoredPart C.File.tells part offset (min count 1048576)
+        (store_view C.Cluster cluster.old) (store_view C.Cluster cluster.new) trace.old trace.new) }
+    ensures failed { IfErr result (λ f. FailsClosed C.File.tells f
+        (store_view C.Cluster cluster.old) (store_view C.Cluster cluster.new) trace.old trace.new) }
     ensures same { C.File.tells → (q : ObjectId) → C.at cluster.new q ≡ C.at cluster.old q }
 {
     let most = count.min(MOST) as usize;

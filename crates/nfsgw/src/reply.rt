@@ -1,12 +1,12 @@
 // Replies, and the lines of the output.
 ghost use Rattle.std.specs.Prelude.{◌≡◌, ◌++◌, IfOk, OnOk, length, string_bytes};
 ghost use Rattle.rpc_record.specs.Records.{mark_text};
-ghost use Rattle.rpc_msg.specs.Replies.{accepted};
-ghost use Rattle.admit.specs.Answers.{body_of, IsPlain};
-ghost use Rattle.nfs_types.specs.Rows.{text};
+ghost use Rattle.rpc_msg.specs.Replies.{accepted_text};
+ghost use Rattle.tickets.specs.Answers.{IsPlain, body_of};
+ghost use Rattle.xdr.specs.Rows.{text};
 ghost use Rattle.nfs_wire.specs.Heads.{body_data, body_results};
 ghost use Rattle.nfs_wire.specs.Results.{results_row};
-ghost use Rattle.nfsgw.specs.Text.{generation, hex_line, reply_bytes, reply_line, closed_line, text_in};
+ghost use Rattle.nfsgw.specs.Replies.{generation, hex_line, reply_bytes, reply_line, closed_line, text_in};
 
 use nfs_wire::body_head;
 use rpc_msg::{accepted_head, system_err};
@@ -37,7 +37,7 @@ fn data_of(body: &Body) -> &[u8]
 
 // An accepted reply with the results of an answer that is neither a text nor SYSTEM_ERR.
 fn put_results(reply: &mut Writer, xid: u32, body: &Body) -> Result<(), NoMemory>
-    ensures { OnOk result (reply.new ≡ reply.old ++ accepted xid 0 ++ text (results_row (body_results body.now generation))) }
+    ensures { OnOk result (reply.new ≡ reply.old ++ accepted_text xid 0 ++ text (results_row (body_results body.now generation))) }
 {
     let data = data_of(body);
     if data.len() > 0xffff_ffff {
@@ -49,7 +49,7 @@ fn put_results(reply: &mut Writer, xid: u32, body: &Body) -> Result<(), NoMemory
 }
 
 /// The reply that an answer is. Takes memory.
-#[tactic(auto, unfolding(crate::specs::Text::reply_bytes))]
+#[tactic(auto, unfolding(crate::specs::Replies::reply_bytes))]
 pub fn body_reply(alloc: Global, xid: u32, body: &Body) -> Result<Vec<u8>, AllocError>
     requires plain { IsPlain body.now }
     ensures { IfOk result (λ reply. reply.items ≡ reply_bytes xid (body_of body.now)) }
@@ -64,7 +64,7 @@ pub fn body_reply(alloc: Global, xid: u32, body: &Body) -> Result<Vec<u8>, Alloc
     }
 }
 
-#[tactic(auto, unfolding(crate::specs::Text::hex_line))]
+#[tactic(auto, unfolding(crate::specs::Replies::hex_line))]
 fn push_line(out: &mut String, conn: u32, digits: &str) -> Result<(), AllocError>
     ensures { OnOk result (string_bytes out.new ≡ string_bytes out.old ++ hex_line conn digits.now) }
 {
@@ -110,7 +110,7 @@ pub fn said_text(alloc: Global, conn: u32, body: Body) -> Result<String, AllocEr
 }
 
 /// The output's line of a connection that ended. Takes memory.
-#[tactic(auto, unfolding(crate::specs::Text::closed_line))]
+#[tactic(auto, unfolding(crate::specs::Replies::closed_line))]
 pub fn closed_text(alloc: Global, conn: u32) -> Result<String, AllocError>
     ensures { IfOk result (λ text. string_bytes text ≡ closed_line conn) }
 {

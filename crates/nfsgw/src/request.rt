@@ -1,16 +1,16 @@
 // What a message of a connection asks for.
 ghost use Rattle.std.specs.Prelude.{◌≡◌, ◌≤◌, true, false, ℕ, IfErr, IfOk, length};
-ghost use Rattle.admit.specs.Answers.{body_of, IsPlain};
+ghost use Rattle.tickets.specs.Answers.{IsPlain, body_of};
 ghost use Rattle.tickets.specs.declared.answer.Body.TheVariants.{Write as WriteBody};
-ghost use Rattle.nfsgw.specs.Requests.{act_of, act_by, act_in, answers, write_act, IsFitting, IsRequest};
-ghost use Rattle.nfsgw.specs.declared.message.Asked.TheVariants.{Reads, Writes};
+ghost use Rattle.nfsgw.specs.Requests.{act_of, act_by, act_in, answer_act, write_act, IsFitting, IsRequest};
+ghost use Rattle.nfsgw.specs.declared.message.Asked.TheVariants as asked;
 
 use crate::call::{ReadCall, WriteCall};
 use crate::message::{Asked, ReadArgs, Refused, WriteArgs, handle_refusal, read_message, refusal};
 use crate::reply::body_reply;
 use bytes::Bytes;
 use gw_model::end_of;
-use nfs_types::status::{NFS3_OK, NFS3ERR_FBIG};
+use gw_model::status::{NFS3_OK, NFS3ERR_FBIG};
 use std::alloc::Global;
 use tickets::Body;
 
@@ -18,25 +18,25 @@ use tickets::Body;
 #[derive(Debug, Drop)]
 pub enum Request {
     /// It is no call, and its connection ends.
-    Ends,
+    Close,
     /// It is answered at once.
-    Says { xid: u32, reply: Bytes },
+    Reply { xid: u32, reply: Bytes },
     /// A READ of the file.
-    Reads(ReadCall),
+    Read(ReadCall),
     /// A WRITE of the file.
-    Writes(WriteCall),
+    Write(WriteCall),
 }
 
 // A request that is answered at once.
 fn answer(alloc: Global, xid: u32, body: &Body) -> Result<Request, Refused>
     requires plain { IsPlain body.now }
-    ensures act { IfOk result (λ r. (conn : ℕ) → act_in conn r ≡ answers conn xid (body_of body.now)) }
+    ensures act { IfOk result (λ r. (conn : ℕ) → act_in conn r ≡ answer_act conn xid (body_of body.now)) }
     ensures fits { IfOk result (λ r. IsFitting true r × IsFitting false r) }
     ensures refused { IfErr result (λ e. e.xid ≡ xid) }
 {
     match body_reply(alloc, xid, body) {
         Ok(reply) => match Bytes::from_vec(reply) {
-            Ok(reply) => Ok(Request::Says { xid, reply }),
+            Ok(reply) => Ok(Request::Reply { xid, reply }),
             Err(_) => Err(Refused { xid }),
         },
         Err(_) => Err(Refused { xid }),
@@ -67,7 +67,7 @@ fn write_request(alloc: Global, xid: u32, args: WriteArgs) -> Result<Request, Re
     if args.data.is_empty() {
         return answer(alloc, xid, &write_body(NFS3_OK));
     }
-    Ok(Request::Writes(WriteCall {
+    Ok(Request::Write(WriteCall {
         xid,
         offset: args.offset,
         content: args.data,
@@ -81,9 +81,9 @@ fn judged_write_request(
     args: WriteArgs,
 ) -> Result<Request, Refused>
     requires few { length args.data ≤ 1048576 }
-    ensures act { IfOk result (λ r. (conn : ℕ) → act_in conn r ≡ act_by in_tree conn (Writes xid args)) }
+    ensures act { IfOk result (λ r. (conn : ℕ) → act_in conn r ≡ act_by in_tree conn (asked.Write xid args)) }
     ensures fits { IfOk result (λ r. IsFitting in_tree r) }
-    ensures refused { IfErr result (λ e. (conn : ℕ) → IsRequest (act_by in_tree conn (Writes xid args)) conn e.xid) }
+    ensures refused { IfErr result (λ e. (conn : ℕ) → IsRequest (act_by in_tree conn (asked.Write xid args)) conn e.xid) }
 {
     match refusal(&args, in_tree) {
         Some(status) => answer(alloc, xid, &write_body(status)),
@@ -97,9 +97,9 @@ fn judged_read_request(
     xid: u32,
     args: ReadArgs,
 ) -> Result<Request, Refused>
-    ensures act { IfOk result (λ r. (conn : ℕ) → act_in conn r ≡ act_by in_tree conn (Reads xid args)) }
+    ensures act { IfOk result (λ r. (conn : ℕ) → act_in conn r ≡ act_by in_tree conn (asked.Read xid args)) }
     ensures fits { IfOk result (λ r. IsFitting in_tree r) }
-    ensures refused { IfErr result (λ e. (conn : ℕ) → IsRequest (act_by in_tree conn (Reads xid args)) conn e.xid) }
+    ensures refused { IfErr result (λ e. (conn : ℕ) → IsRequest (act_by in_tree conn (asked.Read xid args)) conn e.xid) }
 {
     if let Some(status) = handle_refusal(args.handle.as_slice(), in_tree) {
         let body = Body::Read {
@@ -109,7 +109,7 @@ fn judged_read_request(
         };
         return answer(alloc, xid, &body);
     }
-    Ok(Request::Reads(ReadCall {
+    Ok(Request::Read(ReadCall {
         xid,
         offset: args.offset,
         count: args.count,
@@ -124,9 +124,9 @@ pub fn read_request(alloc: Global, in_tree: bool, message: Bytes) -> Result<Requ
     ensures refused { IfErr result (λ e. (conn : ℕ) → IsRequest (act_of in_tree conn message) conn e.xid) }
 {
     match read_message(alloc, message)? {
-        Asked::Ends => Ok(Request::Ends),
-        Asked::Says { xid, reply } => Ok(Request::Says { xid, reply }),
-        Asked::Reads { xid, args } => judged_read_request(alloc, in_tree, xid, args),
-        Asked::Writes { xid, args } => judged_write_request(alloc, in_tree, xid, args),
+        Asked::Close => Ok(Request::Close),
+        Asked::Reply { xid, reply } => Ok(Request::Reply { xid, reply }),
+        Asked::Read { xid, args } => judged_read_request(alloc, in_tree, xid, args),
+        Asked::Write { xid, args } => judged_write_request(alloc, in_tree, xid, args),
     }
 }

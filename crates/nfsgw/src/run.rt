@@ -1,35 +1,34 @@
 // The top call: a command over a source, a sink and a store.
 ghost use Rattle.std.specs.Prelude.{◌≡◌, ◌≢◌, ◌<◌, ◌≤◌, ◌+◌, ◌-◌, ◌^◌, ◌==◌, ◌↔◌, ℕ, List, Option, None, map, string_bytes, true, false, IsTrue};
 ghost use Rattle.gw_outside.specs.Causes.{Rose};
-ghost use Rattle.append_store.specs.State.{IsAway, bytes_of};
+ghost use Rattle.append_store.specs.State.{IsAway};
 ghost use Rattle.transcript.specs.Script.{max_lines};
-ghost use Rattle.gw_model.specs.declared.object.ObjectId.{ObjectId};
-ghost use Rattle.nfsgw.specs.Answering.{history_left};
+ghost use Rattle.nfsgw.specs.WorldSteps.{history_left};
 ghost use Rattle.nfsgw.specs.Headline.{IsReplay, IsComplete, Runs};
-ghost use Rattle.nfsgw.specs.Outside.{body_id, body_at, faults_at, Safe, Stands, IsReady};
-ghost use Rattle.nfsgw.specs.Progress.{Turns, Ends, IsEventTurn, IsWritten, idle, status_by};
+ghost use Rattle.nfsgw.specs.Outside.{body_id, outside_of, OthersStay, HasRisen, IsBodySafe, IsBodyPlaced, MayHappen};
+ghost use Rattle.nfsgw.specs.RunSteps.{initial_state, LineStep, LinesEnd, IsEventOutcome, IsHistoryWritten, idle_gateway, status_by};
 
 use crate::gateway::Gateway;
 use crate::grammar::{Event, Line, line_of};
 use crate::status::Status;
-use crate::world::Stepped;
+use crate::world::StepResult;
 use append_store::Cluster;
 use file_cell::{Ended, Why};
-use gw_outside::{Sink, Source};
+use gw_outside::{Sink, Source, write_all};
 use std::alloc::Global;
-use transcript::{Lines, MAX_LINES, Next, write_all};
+use transcript::{Lines, MAX_LINES, Next};
 
 /// How a line went.
 #[derive(Clone, Copy, Debug, PartialEq, Eq)]
-pub enum Turn {
+pub enum LineOutcome {
     /// It was done, and the next one comes.
-    More,
+    Continue,
     /// It was the last line.
-    Ended,
+    LastLine,
     /// It isn't in the grammar.
-    Bad,
+    BadLine,
     /// The source ended before it did.
-    Open,
+    InputEnded,
     ReadFault,
     StoreFault,
     WriteFault,
@@ -39,13 +38,13 @@ pub enum Turn {
 /// How the lines ended, and how many came before the last.
 #[derive(Clone, Copy)]
 struct Ending {
-    turn: Turn,
+    outcome: LineOutcome,
     lines: u64,
 }
 
 /// How the writing of the history went.
 #[derive(Clone, Copy)]
-pub enum Written {
+pub enum HistoryOutcome {
     Whole,
     WriteFault,
 }
@@ -56,30 +55,32 @@ fn one_event<K: Sink, C: Cluster>(
     gateway: &mut Gateway<C>,
     sink: &mut K,
     cluster: &mut C,
-) -> Turn
-    requires stands { Stands C.File.tells gateway.old.front.in_tree (C.at cluster.old body_id) gateway.old.kept.opened }
-    requires ready { IsReady event gateway.old.front.in_tree }
+) -> LineOutcome
+    requires stands { IsBodyPlaced C.File.tells gateway.old.front.in_tree (C.at cluster.old body_id) gateway.old.kept.opened }
+    requires ready { MayHappen event gateway.old.front.in_tree }
     requires few { gateway.old.kept.noted.event < 2 ^ 64 - 1 }
-    ensures moves { (left : Option (List ℕ)) → IsEventTurn C.File.tells result event.entry gateway.old gateway.new
-        (record { left = left; held = K.held sink.old; body = body_at (C.at cluster.old body_id) gateway.old.kept.opened; faults = faults_at (C.count cluster.old) gateway.old.kept.opened })
-        (record { left = left; held = K.held sink.new; body = body_at (C.at cluster.new body_id) gateway.new.kept.opened; faults = faults_at (C.count cluster.new) gateway.new.kept.opened }) }
+    ensures moves { (left : Option (List ℕ)) → IsEventOutcome C.File.tells result event.entry gateway.old gateway.new
+        (outside_of C.Cluster gateway.old.kept left (K.held sink.old) cluster.old)
+        (outside_of C.Cluster gateway.new.kept left (K.held sink.new) cluster.new) }
     ensures event { gateway.new.kept.noted.event ≤ gateway.old.kept.noted.event + 1 }
-    ensures others { C.File.tells → (q : ObjectId) → q ≢ body_id → C.at cluster.new q ≡ C.at cluster.old q }
-    ensures safe { Safe C.File.tells (C.at cluster.new body_id) gateway.new.kept.opened }
-    ensures stands_after { result ≡ Turn.More → Stands C.File.tells gateway.new.front.in_tree (C.at cluster.new body_id) gateway.new.kept.opened }
+    ensures others { OthersStay C.Cluster C.File.tells cluster.old cluster.new }
+    ensures safe { IsBodySafe C.File.tells (C.at cluster.new body_id) gateway.new.kept.opened }
+    ensures stands_after { result ≡ LineOutcome.Continue
+        → IsBodyPlaced C.File.tells gateway.new.front.in_tree (C.at cluster.new body_id) gateway.new.kept.opened }
     ensures later { K.count sink.old ≤ K.count sink.new }
-    ensures write_cause { result ≡ Turn.WriteFault → Rose (K.count sink.old) (K.count sink.new) }
-    ensures store_cause { result ≡ Turn.StoreFault → Rose (faults_at (C.count cluster.old) gateway.old.kept.opened) (faults_at (C.count cluster.new) gateway.new.kept.opened) }
+    ensures write_cause { result ≡ LineOutcome.WriteFault → Rose (K.count sink.old) (K.count sink.new) }
+    ensures store_cause { result ≡ LineOutcome.StoreFault
+        → HasRisen C.Cluster gateway.old.kept gateway.new.kept cluster.old cluster.new }
 {
     let stepped = gateway.step(event, cluster);
     gateway.clear();
     match stepped {
-        Stepped::Text(text) => match write_all(sink, text.as_bytes()) {
-            Ok(()) => Turn::More,
-            Err(_) => Turn::WriteFault,
+        StepResult::Text(text) => match write_all(sink, text.as_bytes()) {
+            Ok(()) => LineOutcome::Continue,
+            Err(_) => LineOutcome::WriteFault,
         },
-        Stepped::StoreFault => Turn::StoreFault,
-        Stepped::NoMemory => Turn::NoMemory,
+        StepResult::StoreFault => LineOutcome::StoreFault,
+        StepResult::NoMemory => LineOutcome::NoMemory,
     }
 }
 
@@ -92,36 +93,39 @@ fn one_line<S: Source, K: Sink, C: Cluster>(
     source: &mut S,
     sink: &mut K,
     cluster: &mut C,
-) -> Turn
+) -> LineOutcome
     requires few { before < max_lines }
     requires events { gateway.old.kept.noted.event ≤ before }
-    requires stands { Stands C.File.tells gateway.old.front.in_tree (C.at cluster.old body_id) gateway.old.kept.opened }
+    requires stands { IsBodyPlaced C.File.tells gateway.old.front.in_tree (C.at cluster.old body_id) gateway.old.kept.opened }
     requires first { (before == 0) ≡ true → gateway.old.front.in_tree ≡ false }
-    ensures moves { Turns C.File.tells result (record { state = gateway.old; first = before == 0; before = before; pending = lines.old.pending })
+    ensures moves { LineStep C.File.tells result
+        (record { state = gateway.old; first = before == 0; before = before; pending = lines.old.pending })
         (record { state = gateway.new; first = false; before = before + 1; pending = lines.new.pending })
-        (record { left = S.left source.old; held = K.held sink.old; body = body_at (C.at cluster.old body_id) gateway.old.kept.opened; faults = faults_at (C.count cluster.old) gateway.old.kept.opened })
-        (record { left = S.left source.new; held = K.held sink.new; body = body_at (C.at cluster.new body_id) gateway.new.kept.opened; faults = faults_at (C.count cluster.new) gateway.new.kept.opened }) }
+        (outside_of C.Cluster gateway.old.kept (S.left source.old) (K.held sink.old) cluster.old)
+        (outside_of C.Cluster gateway.new.kept (S.left source.new) (K.held sink.new) cluster.new) }
     ensures events_after { gateway.new.kept.noted.event ≤ before + 1 }
-    ensures others { C.File.tells → (q : ObjectId) → q ≢ body_id → C.at cluster.new q ≡ C.at cluster.old q }
-    ensures stands_after { result ≡ Turn.More → Stands C.File.tells gateway.new.front.in_tree (C.at cluster.new body_id) gateway.new.kept.opened }
-    ensures safe { Safe C.File.tells (C.at cluster.new body_id) gateway.new.kept.opened }
+    ensures others { OthersStay C.Cluster C.File.tells cluster.old cluster.new }
+    ensures stands_after { result ≡ LineOutcome.Continue
+        → IsBodyPlaced C.File.tells gateway.new.front.in_tree (C.at cluster.new body_id) gateway.new.kept.opened }
+    ensures safe { IsBodySafe C.File.tells (C.at cluster.new body_id) gateway.new.kept.opened }
     ensures source_later { S.count source.old ≤ S.count source.new }
     ensures sink_later { K.count sink.old ≤ K.count sink.new }
-    ensures read_cause { result ≡ Turn.ReadFault → Rose (S.count source.old) (S.count source.new) }
-    ensures write_cause { result ≡ Turn.WriteFault → Rose (K.count sink.old) (K.count sink.new) }
-    ensures store_cause { result ≡ Turn.StoreFault → Rose (faults_at (C.count cluster.old) gateway.old.kept.opened) (faults_at (C.count cluster.new) gateway.new.kept.opened) }
+    ensures read_cause { result ≡ LineOutcome.ReadFault → Rose (S.count source.old) (S.count source.new) }
+    ensures write_cause { result ≡ LineOutcome.WriteFault → Rose (K.count sink.old) (K.count sink.new) }
+    ensures store_cause { result ≡ LineOutcome.StoreFault
+        → HasRisen C.Cluster gateway.old.kept gateway.new.kept cluster.old cluster.new }
 {
     match lines.next(source) {
         Next::Line => match line_of(before == 0, lines.line(), room) {
             Ok(Some(Line::Go(event))) => one_event(event, gateway, sink, cluster),
-            Ok(Some(Line::End)) => Turn::Ended,
-            Ok(None) => Turn::Bad,
-            Err(_) => Turn::NoMemory,
+            Ok(Some(Line::End)) => LineOutcome::LastLine,
+            Ok(None) => LineOutcome::BadLine,
+            Err(_) => LineOutcome::NoMemory,
         },
-        Next::TooLong => Turn::Bad,
-        Next::AtEnd => Turn::Open,
-        Next::ReadFault => Turn::ReadFault,
-        Next::NoMemory => Turn::NoMemory,
+        Next::TooLong => LineOutcome::BadLine,
+        Next::AtEnd => LineOutcome::InputEnded,
+        Next::ReadFault => LineOutcome::ReadFault,
+        Next::NoMemory => LineOutcome::NoMemory,
     }
 }
 
@@ -133,19 +137,20 @@ fn all_lines<S: Source, K: Sink, C: Cluster>(
     sink: &mut K,
     cluster: &mut C,
 ) -> Ending
-    requires fresh { gateway.old ≡ idle }
-    requires home { Safe C.File.tells (C.at cluster.old body_id) None }
-    ensures moves { Ends C.File.tells result.turn result.lines gateway.new
-        (record { left = S.left source.old; held = K.held sink.old; body = bytes_of (C.at cluster.old body_id); faults = C.count cluster.old })
-        (record { left = S.left source.new; held = K.held sink.new; body = body_at (C.at cluster.new body_id) gateway.new.kept.opened; faults = faults_at (C.count cluster.new) gateway.new.kept.opened }) }
+    requires fresh { gateway.old ≡ idle_gateway }
+    requires home { IsBodySafe C.File.tells (C.at cluster.old body_id) None }
+    ensures moves { LinesEnd C.File.tells result.outcome result.lines gateway.new
+        (outside_of C.Cluster initial_state (S.left source.old) (K.held sink.old) cluster.old)
+        (outside_of C.Cluster gateway.new.kept (S.left source.new) (K.held sink.new) cluster.new) }
     ensures few { result.lines ≤ max_lines }
-    ensures others { C.File.tells → (q : ObjectId) → q ≢ body_id → C.at cluster.new q ≡ C.at cluster.old q }
-    ensures safe { Safe C.File.tells (C.at cluster.new body_id) gateway.new.kept.opened }
+    ensures others { OthersStay C.Cluster C.File.tells cluster.old cluster.new }
+    ensures safe { IsBodySafe C.File.tells (C.at cluster.new body_id) gateway.new.kept.opened }
     ensures source_later { S.count source.old ≤ S.count source.new }
     ensures sink_later { K.count sink.old ≤ K.count sink.new }
-    ensures read_cause { result.turn ≡ Turn.ReadFault → Rose (S.count source.old) (S.count source.new) }
-    ensures write_cause { result.turn ≡ Turn.WriteFault → Rose (K.count sink.old) (K.count sink.new) }
-    ensures store_cause { result.turn ≡ Turn.StoreFault → Rose (C.count cluster.old) (faults_at (C.count cluster.new) gateway.new.kept.opened) }
+    ensures read_cause { result.outcome ≡ LineOutcome.ReadFault → Rose (S.count source.old) (S.count source.new) }
+    ensures write_cause { result.outcome ≡ LineOutcome.WriteFault → Rose (K.count sink.old) (K.count sink.new) }
+    ensures store_cause { result.outcome ≡ LineOutcome.StoreFault
+        → HasRisen C.Cluster initial_state gateway.new.kept cluster.old cluster.new }
 {
     let mut lines = Lines::new(alloc);
     let mut room = Vec::new(alloc);
@@ -153,46 +158,46 @@ fn all_lines<S: Source, K: Sink, C: Cluster>(
         match one_line(
             before, &mut lines, &mut room, gateway, source, sink, cluster,
         ) {
-            Turn::More => {}
-            turn => return Ending {
-                turn,
+            LineOutcome::Continue => {}
+            outcome => return Ending {
+                outcome,
                 lines: before,
             },
         }
     }
     Ending {
-        turn: Turn::Bad,
+        outcome: LineOutcome::BadLine,
         lines: MAX_LINES,
     }
 }
 
 /// Writes the history of the file that was open.
-fn write_history<K: Sink>(ended: Option<Ended>, sink: &mut K) -> Written
-    ensures text { IsWritten result (history_left ended) (K.held sink.old) (K.held sink.new) }
+fn write_history<K: Sink>(ended: Option<Ended>, sink: &mut K) -> HistoryOutcome
+    ensures text { IsHistoryWritten result (history_left ended) (K.held sink.old) (K.held sink.new) }
     ensures later { K.count sink.old ≤ K.count sink.new }
-    ensures cause { result ≡ Written.WriteFault → Rose (K.count sink.old) (K.count sink.new) }
+    ensures cause { result ≡ HistoryOutcome.WriteFault → Rose (K.count sink.old) (K.count sink.new) }
 {
     let Some(ended) = ended else {
-        return Written::Whole;
+        return HistoryOutcome::Whole;
     };
     match ended.write_history(sink, Why::End) {
-        Ok(()) => Written::Whole,
-        Err(_) => Written::WriteFault,
+        Ok(()) => HistoryOutcome::Whole,
+        Err(_) => HistoryOutcome::WriteFault,
     }
 }
 
 /// The status, where the history was written whole.
-fn status_of(turn: Turn, lines: u64) -> Status
+fn status_of(outcome: LineOutcome, lines: u64) -> Status
     requires { lines ≤ max_lines }
-    ensures { result ≡ status_by turn lines }
+    ensures { result ≡ status_by outcome lines }
 {
-    match turn {
-        Turn::Ended => Status::Done,
-        Turn::Bad | Turn::Open => Status::BadLine(lines + 1),
-        Turn::ReadFault => Status::ReadFault,
-        Turn::StoreFault => Status::StoreFault,
-        Turn::WriteFault => Status::WriteFault,
-        Turn::More | Turn::NoMemory => Status::NoMemory,
+    match outcome {
+        LineOutcome::LastLine => Status::Done,
+        LineOutcome::BadLine | LineOutcome::InputEnded => Status::BadLine(lines + 1),
+        LineOutcome::ReadFault => Status::ReadFault,
+        LineOutcome::StoreFault => Status::StoreFault,
+        LineOutcome::WriteFault => Status::WriteFault,
+        LineOutcome::Continue | LineOutcome::NoMemory => Status::NoMemory,
     }
 }
 
@@ -203,29 +208,29 @@ fn replay<S: Source, K: Sink, C: Cluster>(
     sink: &mut K,
     cluster: &mut C,
 ) -> Status
-    requires safe { Safe C.File.tells (C.at cluster.old body_id) None }
+    requires safe { IsBodySafe C.File.tells (C.at cluster.old body_id) None }
     ensures run { Runs C.File.tells result
-        (record { left = S.left source.old; held = K.held sink.old; body = bytes_of (C.at cluster.old body_id); faults = C.count cluster.old })
-        (record { left = S.left source.new; held = K.held sink.new; body = bytes_of (C.at cluster.new body_id); faults = C.count cluster.new }) }
+        (outside_of C.Cluster initial_state (S.left source.old) (K.held sink.old) cluster.old)
+        (outside_of C.Cluster initial_state (S.left source.new) (K.held sink.new) cluster.new) }
     ensures home { C.File.tells → IsAway (C.at cluster.new body_id) → ⊥ }
     ensures read_cause { result ≡ Status.ReadFault → Rose (S.count source.old) (S.count source.new) }
     ensures write_cause { result ≡ Status.WriteFault → Rose (K.count sink.old) (K.count sink.new) }
     ensures store_cause { result ≡ Status.StoreFault → Rose (C.count cluster.old) (C.count cluster.new) }
-    ensures others { C.File.tells → (q : ObjectId) → q ≢ body_id → C.at cluster.new q ≡ C.at cluster.old q }
+    ensures others { OthersStay C.Cluster C.File.tells cluster.old cluster.new }
     ensures not_usage { result ≢ Status.Usage }
 {
     let mut gateway = Gateway::new(alloc);
     let ending = all_lines(alloc, &mut gateway, source, sink, cluster);
     let ended = gateway.finish(cluster);
-    match ending.turn {
-        Turn::StoreFault | Turn::WriteFault | Turn::NoMemory => {
-            return status_of(ending.turn, ending.lines);
+    match ending.outcome {
+        LineOutcome::StoreFault | LineOutcome::WriteFault | LineOutcome::NoMemory => {
+            return status_of(ending.outcome, ending.lines);
         }
         _ => {}
     }
     match write_history(ended, sink) {
-        Written::Whole => status_of(ending.turn, ending.lines),
-        Written::WriteFault => Status::WriteFault,
+        HistoryOutcome::Whole => status_of(ending.outcome, ending.lines),
+        HistoryOutcome::WriteFault => Status::WriteFault,
     }
 }
 
@@ -251,12 +256,12 @@ pub fn run_command<S: Source, K: Sink, C: Cluster>(
     requires safe { C.File.tells → IsAway (C.at cluster.old body_id) → ⊥ }
     // What was read, written and stored, by the status.
     ensures run { Runs C.File.tells result
-        (record { left = S.left source.old; held = K.held sink.old; body = bytes_of (C.at cluster.old body_id); faults = C.count cluster.old })
-        (record { left = S.left source.new; held = K.held sink.new; body = bytes_of (C.at cluster.new body_id); faults = C.count cluster.new }) }
+        (outside_of C.Cluster initial_state (S.left source.old) (K.held sink.old) cluster.old)
+        (outside_of C.Cluster initial_state (S.left source.new) (K.held sink.new) cluster.new) }
     // The body isn't out afterwards.
     ensures home { C.File.tells → IsAway (C.at cluster.new body_id) → ⊥ }
     // No other object is changed.
-    ensures others { C.File.tells → (q : ObjectId) → q ≢ body_id → C.at cluster.new q ≡ C.at cluster.old q }
+    ensures others { OthersStay C.Cluster C.File.tells cluster.old cluster.new }
     // The words are refused exactly where they are no command.
     ensures usage { (result ≡ Status.Usage) ↔ ¬ (IsReplay (map string_bytes words.now.items)) }
     // A fault is answered only where that object's count rose.
@@ -265,7 +270,9 @@ pub fn run_command<S: Source, K: Sink, C: Cluster>(
     ensures store_cause { result ≡ Status.StoreFault → Rose (C.count cluster.old) (C.count cluster.new) }
     // Where nothing fails, a transcript that is whole and in the grammar is done, but for want of memory.
     ensures complete { IsReplay (map string_bytes words.now.items)
-        → (Rose (S.count source.old) (S.count source.new) → ⊥) → (Rose (K.count sink.old) (K.count sink.new) → ⊥) → (Rose (C.count cluster.old) (C.count cluster.new) → ⊥)
+        → (Rose (S.count source.old) (S.count source.new) → ⊥)
+        → (Rose (K.count sink.old) (K.count sink.new) → ⊥)
+        → (Rose (C.count cluster.old) (C.count cluster.new) → ⊥)
         → IsComplete (S.left source.old) result }
 {
     if is_replay(words) {

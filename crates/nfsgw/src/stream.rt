@@ -9,7 +9,7 @@ use std::marker::Model;
 
 /// What a piece of a stream came to.
 #[derive(Debug, Drop)]
-pub enum Heard {
+pub enum StreamStep {
     /// All of it was taken, and a record is still to be completed.
     More,
     /// So many of its bytes complete a record.
@@ -38,7 +38,11 @@ impl Model for Stream {
 
 // Has an assembler take bytes of a piece. After a fault it is one at the start of a stream.
 #[tactic(auto, using(rpc_record::proofs::Fronts::front_empty))]
-fn assemble(assembler: &mut Assembler, alloc: Global, piece: &[u8]) -> Result<Heard, AllocError>
+fn assemble(
+    assembler: &mut Assembler,
+    alloc: Global,
+    piece: &[u8],
+) -> Result<StreamStep, AllocError>
     requires rest { IsAtRest assembler.old }
     ensures ok { IfOk result (λ heard. IsHeard heard assembler.old.held piece.now assembler.new.held) }
     ensures rest { IsAtRest assembler.new }
@@ -46,15 +50,15 @@ fn assemble(assembler: &mut Assembler, alloc: Global, piece: &[u8]) -> Result<He
 {
     match assembler.feed(piece) {
         Ok(taken) => match assembler.next() {
-            Some(message) => Ok(Heard::Record { taken, message }),
-            None => Ok(Heard::More),
+            Some(message) => Ok(StreamStep::Record { taken, message }),
+            None => Ok(StreamStep::More),
         },
         Err(fault) => {
             if fault == FrameFault::Memory {
                 return Err(AllocError);
             }
             *assembler = Assembler::new(alloc);
-            Ok(Heard::Broken)
+            Ok(StreamStep::Broken)
         }
     }
 }
@@ -71,7 +75,7 @@ impl Stream {
 
     /// Takes bytes of a piece: all of it, or up to the end of a record, which is given. After a fault the stream is at a
     /// start. Takes memory, and changes nothing for want of it.
-    pub fn hear(&mut self, alloc: Global, piece: &[u8]) -> Result<Heard, AllocError>
+    pub fn hear(&mut self, alloc: Global, piece: &[u8]) -> Result<StreamStep, AllocError>
         ensures ok { IfOk result (λ heard. IsHeard heard self.old piece.now self.new) }
         ensures err { OnErr result (self.new ≡ self.old) }
     {

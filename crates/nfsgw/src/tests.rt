@@ -1,6 +1,6 @@
 use crate::run::run_command;
 use crate::status::{Status, status_text};
-use append_store::{MemCluster, Planned};
+use append_store::{Cluster, MemCluster, Planned};
 use gw_model::ObjectId;
 use gw_outside::{MemSink, MemSource};
 use std::alloc::{AllocError, Global};
@@ -20,6 +20,10 @@ const FIRST: &str =
 
 const HOLE: &str =
     "bytes 1 80000064000000010000000000000002000186a3000000030000000700000000000000000000000000000000000000200000000000000004000000000000000121e0f2975a84e78cec58787af28bde14000000000000000500000001000000000000000178000000\n";
+
+// The same with xid 3.
+const THIRD: &str =
+    "bytes 1 80000064000000030000000000000002000186a3000000030000000700000000000000000000000000000000000000200000000000000004000000000000000121e0f2975a84e78cec58787af28bde14000000000000000500000001000000000000000178000000\n";
 
 // A READ of five bytes at 0.
 const READ: &str =
@@ -49,6 +53,8 @@ struct Outcome {
     status: Status,
     written: Vec<u8>,
     content: Vec<u8>,
+    // How many of the store's calls failed.
+    faults: u64,
 }
 
 fn words_of(alloc: Global, texts: &[&str]) -> Result<Vec<String>, AllocError> {
@@ -109,6 +115,7 @@ fn command_on(
         status,
         written: Vec::from_slice(alloc, sink.bytes())?,
         content,
+        faults: cluster.faults(),
     })
 }
 
@@ -444,6 +451,46 @@ fn failed_append_keeps_three_bytes(rt: HostRuntime) -> Result<(), Fail> {
     Ok(())
 }
 
+// The append kept all bytes of its piece. It failed all the same, and its writer with it: the write behind it is answered
+// NFS3ERR_IO at its turn, and one that comes after the pump at once.
+#[test]
+fn a_failed_append_that_kept_all_fails_its_writer(rt: HostRuntime) -> Result<(), Fail> {
+    let case = Case {
+        failing_call: 3,
+        kept: 9,
+        ..PLAIN
+    };
+    let lines = [
+        FILE, FIRST, "turn 4\n", HOLE, "turn 4\n", "pump 4\n", THIRD, "end\n",
+    ];
+    let outcome = run(rt.alloc(), &case, &lines)?;
+    assert_eq!(rt; outcome.status, Status::Done);
+    assert_eq!(rt;
+        outcome.written.as_slice(),
+        b"reply 1 80000024000000010000000100000000000000000000000000000000000000050000000000000000\nreply 1 80000024000000010000000100000000000000000000000000000000000000050000000000000000\nreply 1 80000024000000030000000100000000000000000000000000000000000000050000000000000000\ncontext 4 from 0\nwrite 1 0 5 put -\nwrite 2 5 1 lost -\nended 4 end reach 6 stored 5 synced 0\n".as_slice()
+    );
+    assert_eq!(rt; outcome.content.as_slice(), b"abcde".as_slice());
+    Ok(())
+}
+
+// The body is created, read, taken, appended to and read again: the fifth call can be made to fail, and there is no sixth.
+#[test]
+fn a_run_makes_these_calls_and_no_other(rt: HostRuntime) -> Result<(), Fail> {
+    let alloc = rt.alloc();
+    let lines = [FILE, READ, FIRST, "turn 4\n", READ, "turn 4\n", "end\n"];
+    let fifth = Case {
+        failing_call: 5,
+        ..PLAIN
+    };
+    assert_eq!(rt; run(alloc, &fifth, &lines)?.faults, 1);
+    let sixth = Case {
+        failing_call: 6,
+        ..PLAIN
+    };
+    assert_eq!(rt; run(alloc, &sixth, &lines)?.faults, 0);
+    Ok(())
+}
+
 #[test]
 fn a_body_that_is_not_given_fails_the_write(rt: HostRuntime) -> Result<(), Fail> {
     let case = Case {
@@ -570,14 +617,7 @@ fn a_failed_append_turns_the_file_stale(rt: HostRuntime) -> Result<(), Fail> {
     let outcome = run(
         rt.alloc(),
         &case,
-        &[
-            FILE,
-            FIRST,
-            "turn 4\n",
-            "pump 4\n",
-            "bytes 1 80000064000000030000000000000002000186a3000000030000000700000000000000000000000000000000000000200000000000000004000000000000000121e0f2975a84e78cec58787af28bde14000000000000000500000001000000000000000178000000\n",
-            "end\n",
-        ],
+        &[FILE, FIRST, "turn 4\n", "pump 4\n", THIRD, "end\n"],
     )?;
     assert_eq!(rt; outcome.status, Status::Done);
     assert_eq!(rt;

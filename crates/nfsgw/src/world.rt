@@ -1,21 +1,20 @@
 // The open file and the requests that wait, and what each act makes of them.
 ghost use Rattle.std.specs.Prelude.{◌≡◌, ◌≢◌, ◌≤◌, ◌<◌, ◌+◌, ◌-◌, ◌∷◌, ◌^◌, ℕ, [], IfOk, OnOk, OnErr, length, string_bytes, true, false, List, Bool};
 ghost use Rattle.gw_outside.specs.Causes.{Rose};
-ghost use Rattle.gw_model.specs.declared.object.ObjectId.{ObjectId};
 ghost use Rattle.gw_model.specs.Views.{next_event};
-ghost use Rattle.append_store.specs.State.{ObjectState, IsAway, IsThere, bytes_of};
-ghost use Rattle.tickets.specs.Desk.{answered, owed};
-ghost use Rattle.nfsgw.specs.Acts.{Act, Make, Says, Writes, Reads, Ends, Turns, Pumps};
+ghost use Rattle.append_store.specs.State.{ObjectState, IsAway, bytes_of};
+ghost use Rattle.gw_outside.specs.declared.tally.Tally.{Tally};
+ghost use Rattle.tickets.specs.Desk.{with_answered, waiting_ticket};
+ghost use Rattle.nfsgw.specs.Acts.{Act, CreateFile, Reply, WriteFile, ReadFile, CloseConnection, TurnFile, PumpFile};
 ghost use Rattle.nfsgw.specs.Requests.{IsRequest};
-ghost use Rattle.gw_model.specs.File.{SystemErr};
-ghost use Rattle.admit.specs.Answers.{answer_of, IsPlain};
-ghost use Rattle.admit.specs.Calls.{answers_of, is_refusal, write_request};
-ghost use Rattle.nfsgw.specs.World.{World as WorldState, end_text, reading, send, text_to, tried, write_in};
-ghost use Rattle.nfsgw.specs.Outside.{body_id, body_at, scene, GivesBack, Safe, Home, IsText, IsStep, IsCut, IsActed, IsOpen};
-ghost use Rattle.nfsgw.specs.Progress.{initial};
-ghost use Rattle.nfsgw.specs.Answering.{ArePlain, ArePlainIn, IsAsked, IsJob, firsts, SameSettings, wants, SameButRoom, SameFile, SameNumbers, Tries, history_left, noted_by, refusing, sent};
+ghost use Rattle.tickets.specs.Answers.{IsPlain, answer_of};
+ghost use Rattle.admit.specs.Calls.{verdict_answers, write_request};
+ghost use Rattle.nfsgw.specs.World.{World as WorldState, end_text, read_action, send_result, text_to, request_result, write_act_result};
+ghost use Rattle.nfsgw.specs.Outside.{body_id, body_at, scene, scene_of, store_view, store_with, without_outcomes, OthersStay, GivesBack, IsBodySafe, IsBodyHome, IsText, StepsTo, IsActCut, IsActed, IsOpen};
+ghost use Rattle.nfsgw.specs.RunSteps.{initial_state};
+ghost use Rattle.nfsgw.specs.WorldSteps.{IsPlainAnswer, IsPlainVerdict, IsAsked, IsJob, first_answers, SameSettings, is_want_in, SameButRoom, SameFile, SameNumbers, Tries, history_left, refusal_answers, with_refusal, with_sent, with_verdict};
 
-use crate::answers::{conclude, not_written, read_answer, send_left, send_one};
+use crate::answers::{not_written, read_answer, send_left, send_one, send_verdict};
 use crate::call::{ReadCall, WriteCall};
 use crate::opening::{BODY, Failure, open_file, read_body};
 use crate::reply::{closed_text, said_text};
@@ -23,8 +22,8 @@ use admit::{ReadReq, Verdict, WriteReq};
 use append_store::{AppendFile, Cluster, CreateFault};
 use bytes::Bytes;
 use file_cell::{Ended, FileCell};
+use gw_model::status::{NFS3_OK, NFS3ERR_IO};
 use gw_model::{Outcome, Stable, Trace};
-use nfs_types::status::{NFS3_OK, NFS3ERR_IO};
 use range_map::{PendingMap, SortedVecMap};
 use std::alloc::{AllocError, Global};
 use std::marker::Model;
@@ -35,7 +34,7 @@ const NOTES: usize = 9;
 
 /// What came of an event.
 #[derive(Drop)]
-pub enum Stepped {
+pub enum StepResult {
     /// What the event writes.
     Text(String),
     /// The `file` line's call on the store failed.
@@ -54,31 +53,31 @@ pub struct World<C: Cluster> {
 
 impl<C: Cluster> Model for World<C> {
     ghost use Rattle.std.specs.Prelude.{◌≤◌};
-    ghost use Rattle.nfsgw.specs.Outside.{Kept};
-    ghost use Rattle.nfsgw.specs.Answering.{IsReady};
+    ghost use Rattle.nfsgw.specs.Outside.{ProgramState};
+    ghost use Rattle.nfsgw.specs.WorldSteps.{IsCellReady};
 
-    ghost Value = { Kept };
+    ghost Value = { ProgramState };
 
     ghost view = { λ w. record { opened = w.cell; desk = w.desk; noted = w.trace } };
 
     // No answer is left in the file, and each request of the event has a ticket.
-    ghost invariant = { λ w. IsReady w.cell × (w.trace.request ≤ w.desk.last) };
+    ghost invariant = { λ w. IsCellReady w.cell × (w.trace.request ≤ w.desk.last) };
 }
 
 /// What came of an event whose text was made, or not for want of memory.
-pub fn told(text: Result<String, AllocError>) -> Stepped
-    ensures ok { IfOk text (λ t. result ≡ Stepped.Text t) }
-    ensures err { OnErr text (result ≡ Stepped.NoMemory) }
+pub fn step_result(text: Result<String, AllocError>) -> StepResult
+    ensures ok { IfOk text (λ t. result ≡ StepResult.Text t) }
+    ensures err { OnErr text (result ≡ StepResult.NoMemory) }
 {
     match text {
-        Ok(text) => Stepped::Text(text),
-        Err(_) => Stepped::NoMemory,
+        Ok(text) => StepResult::Text(text),
+        Err(_) => StepResult::NoMemory,
     }
 }
 
 // Whether a READ was answered that it found no memory.
 fn is_want(answer: &Option<Answer>) -> bool
-    ensures { result ≡ wants answer.now }
+    ensures { result ≡ is_want_in answer.now }
 {
     matches!(
         answer,
@@ -113,10 +112,10 @@ fn send_first(
     desk: &mut ReplyDesk,
     answer: Option<Answer>,
 ) -> Result<String, AllocError>
-    requires plain { ArePlain answer }
-    ensures desk { desk.new ≡ (send desk.old (firsts answer)).desk }
+    requires plain { IsPlainAnswer answer }
+    ensures desk { desk.new ≡ (send_result desk.old (first_answers answer)).desk }
     ensures last { desk.new.last ≡ desk.old.last }
-    ensures text { IfOk result (λ text. string_bytes text ≡ (send desk.old (firsts answer)).text) }
+    ensures text { IfOk result (λ text. string_bytes text ≡ (send_result desk.old (first_answers answer)).text) }
 {
     match answer {
         Some(answer) => send_one(alloc, desk, answer),
@@ -127,7 +126,7 @@ fn send_first(
 impl<C: Cluster> World<C> {
     /// No file is open, nobody waits, and nothing was noted.
     pub fn new(alloc: Global) -> World<C>
-        ensures { result ≡ initial }
+        ensures { result ≡ initial_state }
     {
         World {
             alloc,
@@ -146,41 +145,42 @@ impl<C: Cluster> World<C> {
 
     /// Forgets the outcomes that were noted.
     pub fn clear(&mut self)
-        ensures { self.new ≡ record self.old { noted = record self.old.noted { outcomes = []; room = self.new.noted.room } } }
+        ensures { self.new ≡ without_outcomes self.old self.new.noted.room }
     {
         self.trace.clear();
     }
 
     /// Creates the body, which is left as it is where it is there already. Takes memory.
-    pub fn make_file(&mut self, cluster: &mut C) -> Stepped
-        requires safe { Safe C.File.tells (C.at cluster.old body_id) None }
+    pub fn make_file(&mut self, cluster: &mut C) -> StepResult
+        requires safe { IsBodySafe C.File.tells (C.at cluster.old body_id) None }
         requires closed { self.old.opened ≡ None }
-        ensures step { IsActed C.File.tells result Make (scene self.old (C.at cluster.old body_id) (C.count cluster.old)) (scene self.new (C.at cluster.new body_id) (C.count cluster.new)) }
+        ensures step { IsActed C.File.tells result CreateFile
+            (scene_of C.Cluster self.old cluster.old) (scene_of C.Cluster self.new cluster.new) }
         ensures closed_after { self.new.opened ≡ None }
-        ensures safe_after { Safe C.File.tells (C.at cluster.new body_id) None }
-        ensures home { IsText result → Home C.File.tells (C.at cluster.new body_id) None }
-        ensures others { C.File.tells → (q : ObjectId) → q ≢ body_id → C.at cluster.new q ≡ C.at cluster.old q }
+        ensures safe_after { IsBodySafe C.File.tells (C.at cluster.new body_id) None }
+        ensures home { IsText result → IsBodyHome C.File.tells (C.at cluster.new body_id) None }
+        ensures others { OthersStay C.Cluster C.File.tells cluster.old cluster.new }
         ensures event { self.new.noted.event ≡ self.old.noted.event }
-        ensures cause { result ≡ Stepped.StoreFault → Rose (C.count cluster.old) (C.count cluster.new) }
+        ensures cause { result ≡ StepResult.StoreFault → Rose (C.count cluster.old) (C.count cluster.new) }
     {
         if self.trace.reserve(NOTES).is_err() {
-            return Stepped::NoMemory;
+            return StepResult::NoMemory;
         }
         match cluster.create(BODY) {
             Ok(()) => {
                 self.trace.note(Outcome::Done);
-                Stepped::Text(String::new(self.alloc))
+                StepResult::Text(String::new(self.alloc))
             }
             Err(CreateFault::Fault) => {
                 self.trace.note(Outcome::Failed { kept: 0 });
-                Stepped::StoreFault
+                StepResult::StoreFault
             }
-            Err(CreateFault::Memory) => Stepped::NoMemory,
+            Err(CreateFault::Memory) => StepResult::NoMemory,
         }
     }
 
     // A request begins: it gets its number and its ticket.
-    fn ask(&mut self, conn: u32, xid: u32) -> Result<Ticket, AllocError>
+    fn begin_request(&mut self, conn: u32, xid: u32) -> Result<Ticket, AllocError>
         ensures ok { IfOk result (λ ticket. IsAsked conn xid NOTES ticket self.old self.new) }
         ensures err { OnErr result (SameButRoom self.old self.new) }
     {
@@ -197,16 +197,16 @@ impl<C: Cluster> World<C> {
     // Sends an answer, and gives what it writes.
     fn send(&mut self, answer: Answer) -> Result<String, AllocError>
         requires plain { IsPlain answer.body }
-        ensures kept { self.new ≡ sent (answer_of answer ∷ []) self.old }
-        ensures text { IfOk result (λ text. string_bytes text ≡ (send self.old.desk (answer_of answer ∷ [])).text) }
+        ensures kept { self.new ≡ with_sent (answer_of answer ∷ []) self.old }
+        ensures text { IfOk result (λ text. string_bytes text ≡ (send_result self.old.desk (answer_of answer ∷ [])).text) }
     {
         send_one(self.alloc, &mut self.desk, answer)
     }
 
     // Sends a whole reply message, and gives what that writes.
     fn send_text(&mut self, ticket: Ticket, text: Vec<u8>) -> Result<String, AllocError>
-        ensures kept { self.new ≡ record self.old { desk = answered ticket.number self.old.desk } }
-        ensures line { IfOk result (λ line. string_bytes line ≡ text_to (owed ticket.number self.old.desk) text.items) }
+        ensures kept { self.new ≡ record self.old { desk = with_answered ticket.number self.old.desk } }
+        ensures line { IfOk result (λ line. string_bytes line ≡ text_to (waiting_ticket ticket.number self.old.desk) text.items) }
     {
         let body = Body::Text(text);
         match self.desk.send(Answer { ticket, body }) {
@@ -218,8 +218,8 @@ impl<C: Cluster> World<C> {
     // Memory was refused for the request of this ticket.
     fn refuse(&mut self, ticket: Ticket) -> Result<String, AllocError>
         requires room { 0 < self.old.noted.room }
-        ensures kept { self.new ≡ refusing ticket.number self.old }
-        ensures text { IfOk result (λ text. string_bytes text ≡ (send self.old.desk (record { ticket = ticket.number; body = SystemErr } ∷ [])).text) }
+        ensures kept { self.new ≡ with_refusal ticket.number self.old }
+        ensures text { IfOk result (λ text. string_bytes text ≡ (send_result self.old.desk (refusal_answers ticket.number)).text) }
     {
         self.trace.refuse();
         let body = Body::SystemErr;
@@ -227,37 +227,41 @@ impl<C: Cluster> World<C> {
     }
 
     // Spends what a request of the open file was answered.
-    fn conclude(&mut self, verdict: Verdict) -> Result<String, AllocError>
-        requires plain { ArePlainIn verdict }
+    fn send_verdict(&mut self, verdict: Verdict) -> Result<String, AllocError>
+        requires plain { IsPlainVerdict verdict }
         requires room { 0 < self.old.noted.room }
-        ensures kept { self.new ≡ record (sent (answers_of verdict) self.old) { noted = noted_by (is_refusal verdict) self.old.noted } }
-        ensures text { IfOk result (λ text. string_bytes text ≡ (send self.old.desk (answers_of verdict)).text) }
+        ensures kept { self.new ≡ with_verdict verdict self.old }
+        ensures text { IfOk result (λ text. string_bytes text ≡ (send_result self.old.desk (verdict_answers verdict)).text) }
     {
         if let Verdict::NoMemory(_) = &verdict {
             self.trace.refuse();
         }
-        conclude(self.alloc, &mut self.desk, verdict)
+        send_verdict(self.alloc, &mut self.desk, verdict)
     }
 
     /// Memory was refused while a request was read.
     pub fn refuse_request(&mut self, conn: u32, xid: u32) -> Result<String, AllocError>
-        ensures ok { (act : Act) → IsRequest act conn xid → (s : ObjectState) (n : ℕ) → IfOk result (λ text. IsStep C.File.tells act (scene self.old s n) (scene self.new s n) (string_bytes text) false) }
-        ensures err { (act : Act) → IsRequest act conn xid → (s : ObjectState) (n : ℕ) → OnErr result (IsCut C.File.tells act (scene self.old s n) (scene self.new s n)) }
+        ensures ok { (act : Act) → IsRequest act conn xid → (s : ObjectState) (n : ℕ) (t : Tally)
+            → IfOk result (StepsTo C.File.tells act (scene self.old (store_with s n t)) (scene self.new (store_with s n t))) }
+        ensures err { (act : Act) → IsRequest act conn xid → (s : ObjectState) (n : ℕ) (t : Tally)
+            → OnErr result (IsActCut C.File.tells act (scene self.old (store_with s n t)) (scene self.new (store_with s n t))) }
         ensures opened { self.new.opened ≡ self.old.opened }
         ensures event { self.new.noted.event ≡ self.old.noted.event }
     {
-        let ticket = self.ask(conn, xid)?;
+        let ticket = self.begin_request(conn, xid)?;
         self.refuse(ticket)
     }
 
     /// A request is answered at once.
-    pub fn say(&mut self, conn: u32, xid: u32, reply: &[u8]) -> Result<String, AllocError>
-        ensures ok { (s : ObjectState) (n : ℕ) → IfOk result (λ text. IsStep C.File.tells (Says conn xid reply.now) (scene self.old s n) (scene self.new s n) (string_bytes text) false) }
-        ensures err { (s : ObjectState) (n : ℕ) → OnErr result (IsCut C.File.tells (Says conn xid reply.now) (scene self.old s n) (scene self.new s n)) }
+    pub fn reply_now(&mut self, conn: u32, xid: u32, reply: &[u8]) -> Result<String, AllocError>
+        ensures ok { (s : ObjectState) (n : ℕ) (t : Tally) → IfOk result (StepsTo C.File.tells (Reply conn xid reply.now)
+            (scene self.old (store_with s n t)) (scene self.new (store_with s n t))) }
+        ensures err { (s : ObjectState) (n : ℕ) (t : Tally) → OnErr result (IsActCut C.File.tells (Reply conn xid reply.now)
+            (scene self.old (store_with s n t)) (scene self.new (store_with s n t))) }
         ensures opened { self.new.opened ≡ self.old.opened }
         ensures event { self.new.noted.event ≡ self.old.noted.event }
     {
-        let ticket = self.ask(conn, xid)?;
+        let ticket = self.begin_request(conn, xid)?;
         let Ok(text) = Vec::from_slice(self.alloc, reply) else {
             return self.refuse(ticket);
         };
@@ -265,9 +269,11 @@ impl<C: Cluster> World<C> {
     }
 
     /// A connection ends: none of its requests is answered any more.
-    pub fn end(&mut self, conn: u32) -> Result<String, AllocError>
-        ensures ok { (s : ObjectState) (n : ℕ) → IfOk result (λ text. IsStep C.File.tells (Ends conn) (scene self.old s n) (scene self.new s n) (string_bytes text) false) }
-        ensures err { (s : ObjectState) (n : ℕ) → OnErr result (IsCut C.File.tells (Ends conn) (scene self.old s n) (scene self.new s n)) }
+    pub fn close_connection(&mut self, conn: u32) -> Result<String, AllocError>
+        ensures ok { (s : ObjectState) (n : ℕ) (t : Tally) → IfOk result (StepsTo C.File.tells (CloseConnection conn)
+            (scene self.old (store_with s n t)) (scene self.new (store_with s n t))) }
+        ensures err { (s : ObjectState) (n : ℕ) (t : Tally) → OnErr result (IsActCut C.File.tells (CloseConnection conn)
+            (scene self.old (store_with s n t)) (scene self.new (store_with s n t))) }
         ensures opened { self.new.opened ≡ self.old.opened }
         ensures event { self.new.noted.event ≡ self.old.noted.event }
     {
@@ -280,12 +286,14 @@ impl<C: Cluster> World<C> {
         requires room { 2 ≤ self.old.noted.room }
         requires last { request.ticket.number ≡ self.old.desk.last }
         requires closed { self.old.opened ≡ None }
-        requires home { Home C.File.tells (C.at cluster.old body_id) None }
+        requires home { IsBodyHome C.File.tells (C.at cluster.old body_id) None }
         requires few { length request.bytes ≤ 1048576 }
         requires below { request.offset + length request.bytes < 2 ^ 63 }
-        ensures tries { Tries C.File.tells (tried (λ w t. write_in w.opened w (write_request request) t)) (scene self.old (C.at cluster.old body_id) (C.count cluster.old)) (scene self.new (C.at cluster.new body_id) (C.count cluster.new)) (λ x. IfOk result (λ t. string_bytes t ≡ x)) }
-        ensures home_after { Home C.File.tells (C.at cluster.new body_id) self.new.opened }
-        ensures others { C.File.tells → (q : ObjectId) → q ≢ body_id → C.at cluster.new q ≡ C.at cluster.old q }
+        ensures tries { Tries C.File.tells (request_result (λ w t. write_act_result w.opened w (write_request request) t))
+            (scene_of C.Cluster self.old cluster.old) (scene_of C.Cluster self.new cluster.new)
+            (λ x. IfOk result (λ t. string_bytes t ≡ x)) }
+        ensures home_after { IsBodyHome C.File.tells (C.at cluster.new body_id) self.new.opened }
+        ensures others { OthersStay C.Cluster C.File.tells cluster.old cluster.new }
         ensures numbers { SameNumbers self.old self.new }
     {
         let mut cell = match open_file(self.alloc, cluster, &mut self.trace) {
@@ -300,7 +308,7 @@ impl<C: Cluster> World<C> {
             }
             verdict => {
                 self.cell = Some(cell);
-                self.conclude(verdict)
+                self.send_verdict(verdict)
             }
         }
     }
@@ -312,16 +320,18 @@ impl<C: Cluster> World<C> {
         call: WriteCall,
         cluster: &mut C,
     ) -> Result<String, AllocError>
-        requires home { Home C.File.tells (C.at cluster.old body_id) self.old.opened }
+        requires home { IsBodyHome C.File.tells (C.at cluster.old body_id) self.old.opened }
         requires few { length call.content ≤ 1048576 }
         requires below { call.offset + length call.content < 2 ^ 63 }
-        ensures ok { IfOk result (λ text. IsStep C.File.tells (Writes conn call) (scene self.old (C.at cluster.old body_id) (C.count cluster.old)) (scene self.new (C.at cluster.new body_id) (C.count cluster.new)) (string_bytes text) false) }
-        ensures err { OnErr result (IsCut C.File.tells (Writes conn call) (scene self.old (C.at cluster.old body_id) (C.count cluster.old)) (scene self.new (C.at cluster.new body_id) (C.count cluster.new))) }
-        ensures home_after { Home C.File.tells (C.at cluster.new body_id) self.new.opened }
-        ensures others { C.File.tells → (q : ObjectId) → q ≢ body_id → C.at cluster.new q ≡ C.at cluster.old q }
+        ensures ok { IfOk result (StepsTo C.File.tells (WriteFile conn call)
+            (scene_of C.Cluster self.old cluster.old) (scene_of C.Cluster self.new cluster.new)) }
+        ensures err { OnErr result (IsActCut C.File.tells (WriteFile conn call)
+            (scene_of C.Cluster self.old cluster.old) (scene_of C.Cluster self.new cluster.new)) }
+        ensures home_after { IsBodyHome C.File.tells (C.at cluster.new body_id) self.new.opened }
+        ensures others { OthersStay C.Cluster C.File.tells cluster.old cluster.new }
         ensures event { self.new.noted.event ≡ self.old.noted.event }
     {
-        let ticket = self.ask(conn, call.xid)?;
+        let ticket = self.begin_request(conn, call.xid)?;
         let request = WriteReq {
             offset: call.offset,
             stable: Stable::Unstable,
@@ -332,7 +342,7 @@ impl<C: Cluster> World<C> {
         match &mut self.cell {
             Some(cell) => {
                 let verdict = cell.write(request);
-                self.conclude(verdict)
+                self.send_verdict(verdict)
             }
             None => self.open_and_write(request, cluster),
         }
@@ -348,11 +358,13 @@ impl<C: Cluster> World<C> {
         requires room { 2 ≤ self.old.noted.room }
         requires last { ticket.number ≡ self.old.desk.last }
         requires closed { self.old.opened ≡ None }
-        requires home { Home C.File.tells (C.at cluster.old body_id) None }
-        ensures tries { Tries C.File.tells (tried (reading call)) (scene self.old (C.at cluster.old body_id) (C.count cluster.old)) (scene self.new (C.at cluster.new body_id) (C.count cluster.new)) (λ x. IfOk result (λ t. string_bytes t ≡ x)) }
+        requires home { IsBodyHome C.File.tells (C.at cluster.old body_id) None }
+        ensures tries { Tries C.File.tells (request_result (read_action call))
+            (scene_of C.Cluster self.old cluster.old) (scene_of C.Cluster self.new cluster.new)
+            (λ x. IfOk result (λ t. string_bytes t ≡ x)) }
         ensures closed_after { self.new.opened ≡ None }
-        ensures home_after { Home C.File.tells (C.at cluster.new body_id) None }
-        ensures others { C.File.tells → (q : ObjectId) → q ≢ body_id → C.at cluster.new q ≡ C.at cluster.old q }
+        ensures home_after { IsBodyHome C.File.tells (C.at cluster.new body_id) None }
+        ensures others { OthersStay C.Cluster C.File.tells cluster.old cluster.new }
         ensures numbers { SameNumbers self.old self.new }
     {
         match read_body(
@@ -372,14 +384,16 @@ impl<C: Cluster> World<C> {
 
     /// A READ.
     pub fn read(&mut self, conn: u32, call: ReadCall, cluster: &mut C) -> Result<String, AllocError>
-        requires home { Home C.File.tells (C.at cluster.old body_id) self.old.opened }
-        ensures ok { IfOk result (λ text. IsStep C.File.tells (Reads conn call) (scene self.old (C.at cluster.old body_id) (C.count cluster.old)) (scene self.new (C.at cluster.new body_id) (C.count cluster.new)) (string_bytes text) false) }
-        ensures err { OnErr result (IsCut C.File.tells (Reads conn call) (scene self.old (C.at cluster.old body_id) (C.count cluster.old)) (scene self.new (C.at cluster.new body_id) (C.count cluster.new))) }
-        ensures home_after { Home C.File.tells (C.at cluster.new body_id) self.new.opened }
-        ensures others { C.File.tells → (q : ObjectId) → q ≢ body_id → C.at cluster.new q ≡ C.at cluster.old q }
+        requires home { IsBodyHome C.File.tells (C.at cluster.old body_id) self.old.opened }
+        ensures ok { IfOk result (StepsTo C.File.tells (ReadFile conn call)
+            (scene_of C.Cluster self.old cluster.old) (scene_of C.Cluster self.new cluster.new)) }
+        ensures err { OnErr result (IsActCut C.File.tells (ReadFile conn call)
+            (scene_of C.Cluster self.old cluster.old) (scene_of C.Cluster self.new cluster.new)) }
+        ensures home_after { IsBodyHome C.File.tells (C.at cluster.new body_id) self.new.opened }
+        ensures others { OthersStay C.Cluster C.File.tells cluster.old cluster.new }
         ensures event { self.new.noted.event ≡ self.old.noted.event }
     {
-        let ticket = self.ask(conn, call.xid)?;
+        let ticket = self.begin_request(conn, call.xid)?;
         match &mut self.cell {
             Some(cell) => {
                 let verdict = cell.read(ReadReq {
@@ -388,7 +402,7 @@ impl<C: Cluster> World<C> {
                     ticket,
                     moment: 0,
                 });
-                self.conclude(verdict)
+                self.send_verdict(verdict)
             }
             None => self.read_closed(call, ticket, cluster),
         }
@@ -397,8 +411,10 @@ impl<C: Cluster> World<C> {
     /// An event: the first job of the open file is done.
     pub fn turn(&mut self) -> Result<String, AllocError>
         requires few { self.old.noted.event < 2 ^ 64 - 1 }
-        ensures ok { (s : ObjectState) (n : ℕ) → IfOk result (λ text. IsStep C.File.tells Turns (scene self.old s n) (scene self.new s n) (string_bytes text) false) }
-        ensures err { (s : ObjectState) (n : ℕ) → OnErr result (IsCut C.File.tells Turns (scene self.old s n) (scene self.new s n)) }
+        ensures ok { (s : ObjectState) (n : ℕ) (t : Tally) → IfOk result (StepsTo C.File.tells TurnFile
+            (scene self.old (store_with s n t)) (scene self.new (store_with s n t))) }
+        ensures err { (s : ObjectState) (n : ℕ) (t : Tally) → OnErr result (IsActCut C.File.tells TurnFile
+            (scene self.old (store_with s n t)) (scene self.new (store_with s n t))) }
         ensures mark { SameFile self.old.opened self.new.opened }
         ensures event { self.new.noted.event ≡ self.old.noted.event + 1 }
     {
@@ -417,8 +433,10 @@ impl<C: Cluster> World<C> {
     /// An event: the open file hears of its writer, and sends what is ready.
     pub fn pump(&mut self) -> Result<String, AllocError>
         requires few { self.old.noted.event < 2 ^ 64 - 1 }
-        ensures ok { (s : ObjectState) (n : ℕ) → IfOk result (λ text. IsStep C.File.tells Pumps (scene self.old s n) (scene self.new s n) (string_bytes text) false) }
-        ensures err { (s : ObjectState) (n : ℕ) → OnErr result (IsCut C.File.tells Pumps (scene self.old s n) (scene self.new s n)) }
+        ensures ok { (s : ObjectState) (n : ℕ) (t : Tally) → IfOk result (StepsTo C.File.tells PumpFile
+            (scene self.old (store_with s n t)) (scene self.new (store_with s n t))) }
+        ensures err { (s : ObjectState) (n : ℕ) (t : Tally) → OnErr result (IsActCut C.File.tells PumpFile
+            (scene self.old (store_with s n t)) (scene self.new (store_with s n t))) }
         ensures mark { SameFile self.old.opened self.new.opened }
         ensures event { self.new.noted.event ≡ self.old.noted.event + 1 }
     {
@@ -437,11 +455,11 @@ impl<C: Cluster> World<C> {
 
     /// Gives the body back to the store, if it was taken, and what the history of the open file is written from.
     pub fn finish(self, cluster: &mut C) -> Option<Ended>
-        requires safe { Safe C.File.tells (C.at cluster.old body_id) self.opened }
+        requires safe { IsBodySafe C.File.tells (C.at cluster.old body_id) self.opened }
         ensures bytes { C.File.tells → bytes_of (C.at cluster.new body_id) ≡ body_at (C.at cluster.old body_id) self.opened }
         ensures home { C.File.tells → IsAway (C.at cluster.new body_id) → ⊥ }
-        ensures others { C.File.tells → (q : ObjectId) → q ≢ body_id → C.at cluster.new q ≡ C.at cluster.old q }
-        ensures count { GivesBack (C.count cluster.old) self.opened (C.count cluster.new) }
+        ensures others { OthersStay C.Cluster C.File.tells cluster.old cluster.new }
+        ensures counts { GivesBack (store_view C.Cluster cluster.old).counts self.opened (store_view C.Cluster cluster.new).counts }
         ensures history { (body : List ℕ) (w : WorldState) → IsOpen self.opened body w → history_left result ≡ end_text w.opened }
     {
         let cell = self.cell?;

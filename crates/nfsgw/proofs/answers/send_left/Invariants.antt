@@ -1,5 +1,5 @@
 use Rattle.std.proofs.Common.{◌≡◌, ◌++◌, IfOk, IsErr, OnOk, OnErr, string_bytes, length}
-use Rattle.nfsgw.specs.World.{send}
+use Rattle.nfsgw.specs.World.{send_result}
 use Rattle.nfsgw.proofs.answers.send_left.Given as goal
 
 -- What is written so far, and what the answers that are left come to, is what all of them come to.
@@ -7,8 +7,8 @@ abbrev pub invariant-loop-answer : goal.invariant-loop-answer
 invariant-loop-answer g l = record {
   rest : l.cell ≡ record l.fn.cell { left = l.cell.left };
   last : l.desk.last ≡ l.fn.desk.last;
-  desk : OnOk l.text ((send l.desk l.cell.left).desk ≡ (send l.fn.desk l.fn.cell.left).desk);
-  text : IfOk l.text (λ all. IfOk l.fn.text (λ before. string_bytes all ++ (send l.desk l.cell.left).text ≡ string_bytes before ++ (send l.fn.desk l.fn.cell.left).text));
+  desk : OnOk l.text ((send_result l.desk l.cell.left).desk ≡ (send_result l.fn.desk l.fn.cell.left).desk);
+  text : IfOk l.text (λ all. IfOk l.fn.text (λ before. string_bytes all ++ (send_result l.desk l.cell.left).text ≡ string_bytes before ++ (send_result l.fn.desk l.fn.cell.left).text));
   err : OnErr l.fn.text (IsErr l.text);
 }
 

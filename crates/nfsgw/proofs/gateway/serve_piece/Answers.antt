@@ -1,7 +1,7 @@
 use Rattle.std.proofs.Common.{◌≡◌, ◌++◌, length, true, false, refl, ◌∙◌, ap, arith, string_bytes}
-use Rattle.nfsgw.proofs.StepCases.{always_err}
+use Rattle.nfsgw.proofs.GatewayEvents.{always_err}
 use Rattle.nfsgw.specs.Outside.{body_id}
-use Rattle.nfsgw.proofs.Hearing.{hears_start, hears_cut, hears_more, hears_fault, hears_fault_cut, hears_faulted_cut, hears_record_cut, hears_served_cut, hears_end, hears_next, less_ahead}
+use Rattle.nfsgw.proofs.GatewayPieces.{hears_start, hears_cut, hears_more, hears_fault, hears_fault_cut, hears_faulted_cut, hears_record_cut, hears_served_cut, hears_end, hears_next, less_ahead}
 use Rattle.nfsgw.proofs.gateway.serve_piece.Goals as goal
 
 pub loop-text-init : goal.loop-text-init
@@ -20,24 +20,24 @@ returns-in-More-clause-ok g c =
     let heard = rw c.in-More.is at c.in_ok-hear.ensures.ok in
     hears_more g.C.File.AppendFile.tells _ _ _ _ _ _ _ _ c.loop-text.invariant.hears c.hear.new.self (record { text = c.loop-text.text; ended = false }) heard.0 heard.1 refl refl
 
-pub returns-in_err-end-in-Broken-clause-err : goal.returns-in_err-end-in-Broken-clause-err
-returns-in_err-end-in-Broken-clause-err g c =
+pub returns-in_err-close_connection-in-Broken-clause-err : goal.returns-in_err-close_connection-in-Broken-clause-err
+returns-in_err-close_connection-in-Broken-clause-err g c =
     let heard = rw c.in-Broken.is at c.in_ok-hear.ensures.ok in
-    always_err c.from_residual-in_err-end-in-Broken.result
-    (hears_fault_cut g.C.File.AppendFile.tells _ _ _ _ _ _ _ _ c.loop-text.invariant.hears heard.0 heard.1 _ (c.in_err-end-in-Broken.ensures.err (g.C.Cluster.at c.loop-text.cluster body_id) (g.C.Cluster.count c.loop-text.cluster)))
+    always_err c.from_residual-in_err-close_connection-in-Broken.result
+    (hears_fault_cut g.C.File.AppendFile.tells _ _ _ _ _ _ _ _ c.loop-text.invariant.hears heard.0 heard.1 _ (c.in_err-close_connection-in-Broken.ensures.err (g.C.Cluster.at c.loop-text.cluster body_id) (g.C.Cluster.count c.loop-text.cluster) (g.C.Cluster.tally c.loop-text.cluster)))
 
 pub returns-in_err-push_str-in-Broken-clause-err : goal.returns-in_err-push_str-in-Broken-clause-err
 returns-in_err-push_str-in-Broken-clause-err g c =
     let heard = rw c.in-Broken.is at c.in_ok-hear.ensures.ok in
     always_err c.from_residual-in_err-push_str-in-Broken.result
-    (hears_faulted_cut g.C.File.AppendFile.tells _ _ _ _ _ _ _ _ c.loop-text.invariant.hears heard.0 heard.1 _ _ (c.in_ok-end-in-Broken.ensures.ok (g.C.Cluster.at c.loop-text.cluster body_id) (g.C.Cluster.count c.loop-text.cluster)))
+    (hears_faulted_cut g.C.File.AppendFile.tells _ _ _ _ _ _ _ _ c.loop-text.invariant.hears heard.0 heard.1 _ _ (c.in_ok-close_connection-in-Broken.ensures.ok (g.C.Cluster.at c.loop-text.cluster body_id) (g.C.Cluster.count c.loop-text.cluster) (g.C.Cluster.tally c.loop-text.cluster)))
 
 pub returns-in-Broken-clause-ok : goal.returns-in-Broken-clause-ok
 returns-in-Broken-clause-ok g c =
     let heard = rw c.in-Broken.is at c.in_ok-hear.ensures.ok in
     let text = c.in_ok-push_str-in-Broken.ensures.bytes ∙ ap (λ xs. string_bytes c.loop-text.text ++ xs) c.as_str.ensures.value in
-    hears_fault g.C.File.AppendFile.tells _ _ _ _ _ _ _ _ c.loop-text.invariant.hears heard.0 heard.1 c.hear.new.self (record { text = c.push_str.new.self; ended = true }) _ (string_bytes c.in_ok-end-in-Broken.field-0)
-    (c.in_ok-end-in-Broken.ensures.ok (g.C.Cluster.at c.loop-text.cluster body_id) (g.C.Cluster.count c.loop-text.cluster)) text refl
+    hears_fault g.C.File.AppendFile.tells _ _ _ _ _ _ _ _ c.loop-text.invariant.hears heard.0 heard.1 c.hear.new.self (record { text = c.push_str.new.self; ended = true }) _ (string_bytes c.in_ok-close_connection-in-Broken.field-0)
+    (c.in_ok-close_connection-in-Broken.ensures.ok (g.C.Cluster.at c.loop-text.cluster body_id) (g.C.Cluster.count c.loop-text.cluster) (g.C.Cluster.tally c.loop-text.cluster)) text refl
 
 pub returns-in_err-served-in-Record-clause-err : goal.returns-in_err-served-in-Record-clause-err
 returns-in_err-served-in-Record-clause-err g c =

@@ -1,7 +1,7 @@
 use Rattle.std.proofs.Common.{rules, ◌≡◌, None, sym, ◌∙◌, nat_cmp}
 use Rattle.std.specs.BTreeMap.{is_at}
 use Rattle.std.specs.Map.{lookup}
-use Rattle.nfsgw.proofs.Links.{set_absent}
+use Rattle.nfsgw.proofs.LinkMap.{set_absent}
 use Rattle.nfsgw.proofs.link.give_link.Goals as goal
 
 pub returns-in_default : goal.returns-in_default

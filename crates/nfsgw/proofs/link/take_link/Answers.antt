@@ -2,7 +2,7 @@ use Rattle.std.proofs.Common.{rules, ◌≡◌, [], None, sym, ◌∙◌, ap, na
 use Rattle.std.specs.BTreeMap.{insert_entry, is_at}
 use Rattle.std.specs.Map.{lookup}
 use Rattle.nfsgw.specs.declared.link.Link.TheVariants.{Open, Closed}
-use Rattle.nfsgw.proofs.Links.{set_inserted}
+use Rattle.nfsgw.proofs.LinkMap.{set_inserted}
 use Rattle.nfsgw.proofs.link.take_link.Goals as goal
 
 pub returns-in-Ok-clause-rest : goal.returns-in-Ok-clause-rest

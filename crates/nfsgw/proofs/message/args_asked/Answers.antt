@@ -1,4 +1,4 @@
-use Rattle.nfsgw.proofs.Asking.{asked_else}
+use Rattle.nfsgw.proofs.MessageAsked.{asked_else}
 use Rattle.nfsgw.proofs.message.args_asked.Goals as goal
 
 pub returns : goal.returns

@@ -3,9 +3,9 @@ use Rattle.std.specs.Result.{IsErrAnd}
 use Rattle.nfsgw.specs.Messages.{asked_of}
 use Rattle.nfsgw.specs.Requests.{act_of, act_by, IsRequest}
 use Rattle.nfsgw.specs.declared.message.Asked.{Asked}
-use Rattle.nfsgw.specs.declared.message.Asked.TheVariants.{Reads, Writes}
+use Rattle.nfsgw.specs.declared.message.Asked.TheVariants as asked
 use Rattle.nfsgw.specs.declared.message.Refused.{Refused}
-use Rattle.nfsgw.proofs.Asking.{request_of}
+use Rattle.nfsgw.proofs.MessageAsked.{request_of}
 use Rattle.nfsgw.proofs.request.read_request.Goals as goal
 
 -- the fault of a `?` is the one that was met
@@ -18,12 +18,12 @@ returns-in_err-read_message-clause-refused c =
     let asks = λ (conn : ℕ). request_of c.args.in_tree conn (asked_of c.args.message) c.in_err-read_message.field-0.0.xid c.in_err-read_message.ensures.asked_by in
     passed_on c.from_residual.result c.in_err-read_message.field-0.0 (λ e. (conn : ℕ) → IsRequest (act_of c.args.in_tree conn c.args.message) conn e.xid) c.from_residual.ensures.1 asks
 
-pub returns-in-Reads-clause-refused : goal.returns-in-Reads-clause-refused
-returns-in-Reads-clause-refused c =
-    let asked : Reads c.in-Reads.xid c.in-Reads.args ≡ asked_of c.args.message = sym c.in-Reads.is ∙ c.in_ok-read_message.ensures.asked in
-    subst (λ (a : Asked). IfErr c.judged_read_request.result (λ (e : Refused). (conn : ℕ) → IsRequest (act_by c.args.in_tree conn a) conn e.xid)) asked c.judged_read_request.ensures.refused
+pub returns-in-Read-clause-refused : goal.returns-in-Read-clause-refused
+returns-in-Read-clause-refused c =
+    let is : asked.Read c.in-Read.xid c.in-Read.args ≡ asked_of c.args.message = sym c.in-Read.is ∙ c.in_ok-read_message.ensures.asked in
+    subst (λ (a : Asked). IfErr c.judged_read_request.result (λ (e : Refused). (conn : ℕ) → IsRequest (act_by c.args.in_tree conn a) conn e.xid)) is c.judged_read_request.ensures.refused
 
-pub returns-in-Writes-clause-refused : goal.returns-in-Writes-clause-refused
-returns-in-Writes-clause-refused c =
-    let asked : Writes c.in-Writes.xid c.in-Writes.args ≡ asked_of c.args.message = sym c.in-Writes.is ∙ c.in_ok-read_message.ensures.asked in
-    subst (λ (a : Asked). IfErr c.judged_write_request.result (λ (e : Refused). (conn : ℕ) → IsRequest (act_by c.args.in_tree conn a) conn e.xid)) asked c.judged_write_request.ensures.refused
+pub returns-in-Write-clause-refused : goal.returns-in-Write-clause-refused
+returns-in-Write-clause-refused c =
+    let is : asked.Write c.in-Write.xid c.in-Write.args ≡ asked_of c.args.message = sym c.in-Write.is ∙ c.in_ok-read_message.ensures.asked in
+    subst (λ (a : Asked). IfErr c.judged_write_request.result (λ (e : Refused). (conn : ℕ) → IsRequest (act_by c.args.in_tree conn a) conn e.xid)) is c.judged_write_request.ensures.refused

@@ -1,16 +1,16 @@
 use Rattle.std.proofs.Common.{◌≡◌, ◌<◌, ◌+◌, ◌∙◌, false, refl, sym, arith}
 use Rattle.std.specs.Prelude.{◌==◌}
 use Rattle.std.proofs.lemmas.Bool.Decides.{nat_tests}
-use Rattle.append_store.specs.State.{bytes_of}
 use Rattle.transcript.specs.Script.{max_lines}
-use Rattle.nfsgw.specs.Outside.{body_id}
-use Rattle.nfsgw.proofs.Runs.{reached_start, reached_more, reached_end, reached_late}
-use Rattle.nfsgw.proofs.Ready.{stands_safe}
+use Rattle.nfsgw.specs.Outside.{outside_of}
+use Rattle.nfsgw.specs.RunSteps.{initial_state}
+use Rattle.nfsgw.proofs.RunLines.{reached_start, reached_more, reached_end, reached_late}
+use Rattle.nfsgw.proofs.GatewayReady.{stands_safe}
 use Rattle.nfsgw.proofs.run.all_lines.Goals as goal
 
 pub loop-before-init : goal.loop-before-init
 loop-before-init g c = record {
-  reached = rw (c.requires.fresh, c.new-lines.ensures) (reached_start g.C.File.AppendFile.tells (record { left = g.S.Source.left c.args.source.now; held = g.K.Sink.held c.args.sink.now; body = bytes_of (g.C.Cluster.at c.args.cluster.now body_id); faults = g.C.Cluster.count c.args.cluster.now }));
+  reached = rw (c.requires.fresh, c.new-lines.ensures) (reached_start g.C.File.AppendFile.tells (outside_of g.C.Cluster initial_state (g.S.Source.left c.args.source.now) (g.K.Sink.held c.args.sink.now) c.args.cluster.now));
   events = rw c.requires.fresh (omega arith);
   stands = rw c.requires.fresh (refl, c.requires.home);
   first = λ e. rw c.requires.fresh refl;
@@ -24,9 +24,9 @@ returns-in_default g c =
     let inv = c.loop-before.invariant in
     let e = c.one_line.ensures in
     let h : c.loop-before.before < max_lines = omega arith in
-    let rose = inv.reached.later in
+    let rose = inv.reached.moves.counts.fails in
     record {
-      moves = reached_end g.C.File.AppendFile.tells c.one_line.result _ _ _ _ _ c.in_default.not-More h inv.reached e.moves;
+      moves = reached_end g.C.File.AppendFile.tells c.one_line.result _ _ _ _ _ c.in_default.not-Continue h inv.reached e.moves;
       few = omega arith;
       others = λ told q apart. e.others told q apart ∙ inv.others told q apart;
       safe = e.safe;
@@ -40,7 +40,7 @@ returns-in_default g c =
 pub loop-before-preserved : goal.loop-before-preserved
 loop-before-preserved g c =
     let inv = c.loop-before.invariant in
-    let e = c.in-More.ensures in
+    let e = c.in-Continue.ensures in
     let no : (c.loop-before.before + 1 == 0) ≡ false = grind (arith, nat_tests) in
     record {
       reached = rw no (reached_more g.C.File.AppendFile.tells _ _ _ _ _ inv.reached e.moves);

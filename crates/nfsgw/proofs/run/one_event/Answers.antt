@@ -1,8 +1,7 @@
 use Rattle.std.proofs.Common.{string_bytes}
 use Rattle.std.proofs.KnownBytes.{Appends-nil}
-use Rattle.nfsgw.specs.Headline.{Outside}
-use Rattle.nfsgw.specs.Outside.{body_id, body_at, faults_at}
-use Rattle.nfsgw.proofs.Clearing.{event_cut, stops_cleared, cuts_cleared}
+use Rattle.nfsgw.specs.Outside.{outside_of}
+use Rattle.nfsgw.proofs.RunEvents.{event_cut, stops_cleared, cuts_cleared}
 use Rattle.nfsgw.proofs.run.one_event.Goals as goal
 
 pub returns-in-Text-clause-moves : goal.returns-in-Text-clause-moves
@@ -16,8 +15,7 @@ pub returns-clause-moves : goal.returns-clause-moves
 returns-clause-moves g c = λ left.
     let held = g.K.Sink.held c.args.sink.now in
     let mid = c.step-stepped.new.self in
-    let s = g.C.Cluster.at c.step-stepped.new.cluster body_id in
-    let after : Outside = record { left = left; held = held; body = body_at s mid.kept.opened; faults = faults_at (g.C.Cluster.count c.step-stepped.new.cluster) mid.kept.opened } in
+    let after = outside_of g.C.Cluster mid.kept left held c.step-stepped.new.cluster in
     let cut = cuts_cleared g.C.File.AppendFile.tells _ _ mid c.clear.new.self.kept.noted.room after c.in-NoMemory.ensures.step in
     rw c.clear.ensures (cut, Appends-nil held)
 
@@ -25,7 +23,6 @@ pub returns-in-StoreFault-clause-moves : goal.returns-in-StoreFault-clause-moves
 returns-in-StoreFault-clause-moves g c = λ left.
     let held = g.K.Sink.held c.args.sink.now in
     let mid = c.step-stepped.new.self in
-    let s = g.C.Cluster.at c.step-stepped.new.cluster body_id in
-    let after : Outside = record { left = left; held = held; body = body_at s mid.kept.opened; faults = faults_at (g.C.Cluster.count c.step-stepped.new.cluster) mid.kept.opened } in
+    let after = outside_of g.C.Cluster mid.kept left held c.step-stepped.new.cluster in
     let stopped = stops_cleared g.C.File.AppendFile.tells _ _ mid c.clear.new.self.kept.noted.room after c.in-StoreFault.ensures.step in
     rw c.clear.ensures (stopped, Appends-nil held)

@@ -1,9 +1,9 @@
 use Rattle.std.proofs.Common.{◌≡◌, Some, None, refl, sym, ap, ◌∙◌}
 use Rattle.std.specs.Prelude.{◌==◌}
-use Rattle.nfsgw.specs.Grammar.{line_of as line_of_text}
+use Rattle.nfsgw.specs.Grammar.{grammar_line as line_of_text}
 use Rattle.nfsgw.specs.declared.grammar.Line.TheVariants.{Go, End}
-use Rattle.nfsgw.proofs.Ready.{line_ready}
-use Rattle.nfsgw.proofs.Runs.{event_turn, only_read, rests, refused_line, no_read_fault, settles_end, settles_bad, settles_long}
+use Rattle.nfsgw.proofs.GatewayReady.{line_ready}
+use Rattle.nfsgw.proofs.RunLines.{event_turn, only_read, rests, refused_line, no_read_fault, settles_end, settles_bad, settles_long}
 use Rattle.nfsgw.proofs.run.one_line.Goals as goal
 
 pub returns-in-Ok-Some-Go-clause-moves : goal.returns-in-Ok-Some-Go-clause-moves

@@ -1,19 +1,19 @@
 use Rattle.std.proofs.Common.{◌∙◌, sym, arith}
 use Rattle.append_store.specs.State.{bytes_of}
-use Rattle.nfsgw.specs.Outside.{body_id, body_at}
-use Rattle.nfsgw.specs.Answering.{history_left}
-use Rattle.nfsgw.proofs.Finishes.{runs_whole, runs_short, runs_cut, status_read, status_write, status_store, status_usage}
+use Rattle.nfsgw.specs.Outside.{body_id, body_at, store_view}
+use Rattle.nfsgw.specs.WorldSteps.{history_left}
+use Rattle.nfsgw.proofs.RunEnd.{end_text_is, runs_whole, runs_short, runs_cut, status_read, status_write, status_store, status_usage}
 use Rattle.nfsgw.proofs.run.replay.Goals as goal
 
 pub returns-in-StoreFault-clause-run : goal.returns-in-StoreFault-clause-run
 returns-in-StoreFault-clause-run g c =
     let ending = c.all_lines-ending.result in
     let e = c.all_lines-ending.ensures in
-    rw c.status_of.ensures (runs_cut g.C.File.AppendFile.tells ending.turn ending.lines c.all_lines-ending.new.gateway _
+    rw c.status_of.ensures (runs_cut g.C.File.AppendFile.tells ending.outcome ending.lines c.all_lines-ending.new.gateway _
     (g.S.Source.left c.all_lines-ending.new.source) (g.K.Sink.held c.all_lines-ending.new.sink)
     (body_at (g.C.Cluster.at c.all_lines-ending.new.cluster body_id) c.all_lines-ending.new.gateway.kept.opened) (bytes_of (g.C.Cluster.at c.finish-ended.new.cluster body_id))
-    (g.C.Cluster.count c.all_lines-ending.new.cluster) (g.C.Cluster.count c.finish-ended.new.cluster)
-    e.moves c.finish-ended.ensures.count c.finish-ended.ensures.bytes (history_left c.finish-ended.result) c.finish-ended.ensures.history c.in-StoreFault.is)
+    (store_view g.C.Cluster c.all_lines-ending.new.cluster).counts (store_view g.C.Cluster c.finish-ended.new.cluster).counts
+    e.moves c.finish-ended.ensures.counts c.finish-ended.ensures.bytes (history_left c.finish-ended.result) c.finish-ended.ensures.history (end_text_is c.finish-ended.result) c.in-StoreFault.is)
 
 pub returns-in-Whole : goal.returns-in-Whole
 returns-in-Whole g c =
@@ -21,18 +21,18 @@ returns-in-Whole g c =
     let e = c.all_lines-ending.ensures in
     let s = c.status_of-in-Whole.ensures in
     record {
-      run = rw s (runs_whole g.C.File.AppendFile.tells ending.turn ending.lines c.all_lines-ending.new.gateway _
+      run = rw s (runs_whole g.C.File.AppendFile.tells ending.outcome ending.lines c.all_lines-ending.new.gateway _
           (g.S.Source.left c.all_lines-ending.new.source) (g.K.Sink.held c.all_lines-ending.new.sink)
           (body_at (g.C.Cluster.at c.all_lines-ending.new.cluster body_id) c.all_lines-ending.new.gateway.kept.opened) (bytes_of (g.C.Cluster.at c.finish-ended.new.cluster body_id))
-          (g.C.Cluster.count c.all_lines-ending.new.cluster) (g.C.Cluster.count c.finish-ended.new.cluster)
-          e.moves c.finish-ended.ensures.count c.finish-ended.ensures.bytes (history_left c.finish-ended.result) c.finish-ended.ensures.history
+          (store_view g.C.Cluster c.all_lines-ending.new.cluster).counts (store_view g.C.Cluster c.finish-ended.new.cluster).counts
+          e.moves c.finish-ended.ensures.counts c.finish-ended.ensures.bytes (history_left c.finish-ended.result) c.finish-ended.ensures.history (end_text_is c.finish-ended.result)
           (g.K.Sink.held c.write_history.new.sink) c.in_default.not-StoreFault c.in_default.not-WriteFault c.in_default.not-NoMemory c.in-Whole.ensures.text);
       home = c.finish-ended.ensures.home;
-      read_cause = λ q. e.read_cause (status_read ending.turn ending.lines (sym s ∙ q));
-      write_cause = λ q. absurd (c.in_default.not-WriteFault (status_write ending.turn ending.lines (sym s ∙ q)));
-      store_cause = λ q. absurd (c.in_default.not-StoreFault (status_store ending.turn ending.lines (sym s ∙ q)));
+      read_cause = λ q. e.read_cause (status_read ending.outcome ending.lines (sym s ∙ q));
+      write_cause = λ q. absurd (c.in_default.not-WriteFault (status_write ending.outcome ending.lines (sym s ∙ q)));
+      store_cause = λ q. absurd (c.in_default.not-StoreFault (status_store ending.outcome ending.lines (sym s ∙ q)));
       others = λ told q apart. c.finish-ended.ensures.others told q apart ∙ e.others told q apart;
-      not_usage = λ q. status_usage ending.turn ending.lines (sym s ∙ q);
+      not_usage = λ q. status_usage ending.outcome ending.lines (sym s ∙ q);
     }
 
 pub returns-in-WriteFault : goal.returns-in-WriteFault
@@ -42,11 +42,11 @@ returns-in-WriteFault g c =
     let rose = c.write_history.ensures.cause c.in-WriteFault.is in
     let later = e.sink_later in
     record {
-      run = runs_short g.C.File.AppendFile.tells ending.turn ending.lines c.all_lines-ending.new.gateway _
+      run = runs_short g.C.File.AppendFile.tells ending.outcome ending.lines c.all_lines-ending.new.gateway _
           (g.S.Source.left c.all_lines-ending.new.source) (g.K.Sink.held c.all_lines-ending.new.sink)
           (body_at (g.C.Cluster.at c.all_lines-ending.new.cluster body_id) c.all_lines-ending.new.gateway.kept.opened) (bytes_of (g.C.Cluster.at c.finish-ended.new.cluster body_id))
-          (g.C.Cluster.count c.all_lines-ending.new.cluster) (g.C.Cluster.count c.finish-ended.new.cluster)
-          e.moves c.finish-ended.ensures.count c.finish-ended.ensures.bytes (history_left c.finish-ended.result) c.finish-ended.ensures.history
+          (store_view g.C.Cluster c.all_lines-ending.new.cluster).counts (store_view g.C.Cluster c.finish-ended.new.cluster).counts
+          e.moves c.finish-ended.ensures.counts c.finish-ended.ensures.bytes (history_left c.finish-ended.result) c.finish-ended.ensures.history (end_text_is c.finish-ended.result)
           (g.K.Sink.held c.write_history.new.sink) c.in_default.not-StoreFault c.in_default.not-WriteFault c.in_default.not-NoMemory c.in-WriteFault.ensures.text;
       home = c.finish-ended.ensures.home;
       read_cause = λ q. cc;

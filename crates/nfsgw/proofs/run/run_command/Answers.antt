@@ -1,4 +1,4 @@
-use Rattle.nfsgw.proofs.Finishes.{runs_usage, completes}
+use Rattle.nfsgw.proofs.RunEnd.{runs_usage, completes}
 use Rattle.nfsgw.proofs.run.run_command.Goals as goal
 
 pub returns-else-is_replay-clause-run : goal.returns-else-is_replay-clause-run

@@ -1,6 +1,6 @@
 use Rattle.std.proofs.Common.{◌≢◌, rules, refl, sym, ◌∙◌, subst}
 use Rattle.rpc_record.specs.declared.fault.FrameFault.TheVariants.{Memory}
-use Rattle.nfsgw.proofs.Assembling.{Takes, fed_ok, fed_fault}
+use Rattle.nfsgw.proofs.StreamRecords.{Takes, fed_ok, fed_fault}
 use Rattle.nfsgw.proofs.stream.assemble.Goals as goal
 
 pub returns-in-Some-clause-ok : goal.returns-in-Some-clause-ok

@@ -1,14 +1,14 @@
 use Rattle.std.proofs.Common.{◌∙◌, ap, sym}
-use Rattle.nfsgw.specs.Answering.{noted_by}
-use Rattle.nfsgw.proofs.Jobs.{job_of}
+use Rattle.nfsgw.specs.WorldSteps.{noted_after}
+use Rattle.nfsgw.proofs.WorldTurns.{job_of}
 use Rattle.nfsgw.proofs.world.do_job.Goals as goal
 
 pub returns-then-is_want-clause-job : goal.returns-then-is_want-clause-job
 returns-then-is_want-clause-job g c =
     job_of g.F.AppendFile.tells c.write_step.result _ c.write_step.new.self _ _ c.write_step.new.trace _ c.next_answer-answer.result c.write_step.ensures.step c.requires.none_left c.next_answer-answer.ensures.hands c.next_answer-answer.ensures.rest
-    (c.refuse.ensures ∙ ap (λ b. noted_by b c.write_step.new.trace) (sym c.if-is_want.true ∙ c.is_want.ensures))
+    (c.refuse.ensures ∙ ap (λ b. noted_after b c.write_step.new.trace) (sym c.if-is_want.true ∙ c.is_want.ensures))
 
 pub returns-else-is_want-clause-job : goal.returns-else-is_want-clause-job
 returns-else-is_want-clause-job g c =
     job_of g.F.AppendFile.tells c.write_step.result _ c.write_step.new.self _ _ c.write_step.new.trace _ c.next_answer-answer.result c.write_step.ensures.step c.requires.none_left c.next_answer-answer.ensures.hands c.next_answer-answer.ensures.rest
-    (ap (λ b. noted_by b c.write_step.new.trace) (sym c.if-is_want.false ∙ c.is_want.ensures))
+    (ap (λ b. noted_after b c.write_step.new.trace) (sym c.if-is_want.false ∙ c.is_want.ensures))

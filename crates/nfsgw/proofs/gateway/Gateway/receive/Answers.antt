@@ -1,8 +1,8 @@
 use Rattle.std.proofs.Common.{refl, sym, ◌∙◌, ap}
-use Rattle.nfsgw.specs.Links.{Front}
-use Rattle.nfsgw.proofs.StepCases.{always_err}
-use Rattle.nfsgw.proofs.Doing.{cuts_still}
-use Rattle.nfsgw.proofs.Linking.{piece_received, piece_passed, piece_cut}
+use Rattle.nfsgw.specs.Links.{FrontState}
+use Rattle.nfsgw.proofs.GatewayEvents.{always_err}
+use Rattle.nfsgw.proofs.GatewayActs.{cuts_still}
+use Rattle.nfsgw.proofs.LinkPieces.{piece_received, piece_passed, piece_cut}
 use Rattle.nfsgw.proofs.gateway.Gateway.receive.Goals as goal
 
 pub returns-in_err-stream-clause-err : goal.returns-in_err-stream-clause-err
@@ -12,11 +12,11 @@ pub returns-in_default-clause-ok : goal.returns-in_default-clause-ok
 returns-in_default-clause-ok g c =
     rw (← c.self.view_is, c.new.ensures.bytes)
     (piece_passed g.C.File.AppendFile.tells c.args.conn c.args.piece.now _ _ _ _ (sym c.in_ok-stream.ensures.link ∙ c.in_default.is)
-    (ap (λ ls. let f : Front = record { in_tree = c.self.inside.in_tree; links = ls } in f) c.in_ok-stream.ensures.rest) refl)
+    (ap (λ ls. let f : FrontState = record { in_tree = c.self.inside.in_tree; links = ls } in f) c.in_ok-stream.ensures.rest) refl)
 
 pub returns-in_err-served-clause-err : goal.returns-in_err-served-clause-err
 returns-in_err-served-clause-err g c =
-    let front : Front = record { in_tree = c.self.inside.in_tree; links = c.self.inside.links.entries } in
+    let front : FrontState = record { in_tree = c.self.inside.in_tree; links = c.self.inside.links.entries } in
     let cut = piece_cut g.C.File.AppendFile.tells c.args.conn c.args.piece.now front front _ _ c.in-Open.stream (sym c.in_ok-stream.ensures.link ∙ c.in-Open.is) c.in_err-served.ensures.err in
     always_err c.from_residual-in_err-served.result (rw (← c.self.view_is) cut)
 
@@ -24,4 +24,4 @@ pub returns-clause-ok : goal.returns-clause-ok
 returns-clause-ok g c =
     rw (← c.self.view_is)
     (piece_received g.C.File.AppendFile.tells c.args.conn c.args.piece.now _ _ _ _ c.in-Open.stream c.serve_piece.new.stream c.in_ok-served.served (sym c.in_ok-stream.ensures.link ∙ c.in-Open.is)
-    (ap (λ ls. let f : Front = record { in_tree = c.self.inside.in_tree; links = ls } in f) (c.give_link.ensures ∙ rw (c.link_after.ensures, c.in_ok-stream.ensures.rest) refl)) c.in_ok-served.ensures.ok)
+    (ap (λ ls. let f : FrontState = record { in_tree = c.self.inside.in_tree; links = ls } in f) (c.give_link.ensures ∙ rw (c.link_after.ensures, c.in_ok-stream.ensures.rest) refl)) c.in_ok-served.ensures.ok)

@@ -1,18 +1,19 @@
-use Rattle.std.proofs.Common.{◌≡◌, [], ◌∷◌, inr, refl, sym, ◌∙◌, ap, subst, arith}
-use Rattle.gw_model.specs.Ahead.{Good}
+use Rattle.std.proofs.Common.{◌≡◌, [], ◌∷◌, inr, refl, sym, ◌∙◌, ap, subst}
+use Rattle.gw_model.specs.Ahead.{Done, Good}
 use Rattle.append_store.specs.State.{Kept, Lent, IsThere, bytes_of}
-use Rattle.admit.specs.Answers.{body_of}
+use Rattle.tickets.specs.Answers.{body_of}
 use Rattle.admit.specs.Calls.{write_request}
-use Rattle.gw_model.specs.Sides.{side_write}
-use Rattle.gw_model.specs.Views.{Noted}
+use Rattle.gw_model.specs.Sides.{side_write_step}
+use Rattle.gw_model.specs.Views.{TraceState}
 use Rattle.writeback.specs.Steps.{with_calls}
-use Rattle.nfsgw.specs.Answering.{noted_by, refusing}
-use Rattle.nfsgw.specs.Opening.{Fails}
+use Rattle.nfsgw.specs.WorldSteps.{noted_after, with_refusal}
+use Rattle.nfsgw.specs.Opening.{FailsClosed}
 use Rattle.nfsgw.specs.Outside as outside
-use Rattle.nfsgw.specs.Outside.{body_id}
+use Rattle.nfsgw.specs.Outside.{store_view}
 use Rattle.nfsgw.specs.declared.opening.Failure.TheVariants.{Memory}
-use Rattle.nfsgw.proofs.Acting.{told_ready, told_file, not_want}
-use Rattle.nfsgw.proofs.Opens.{unopened, unwritten, opening_step, of_answer, noting}
+use Rattle.nfsgw.proofs.RunCounts.{counted_back}
+use Rattle.nfsgw.proofs.WorldRequests.{told_ready, told_file, not_want}
+use Rattle.nfsgw.proofs.WorldClosed.{unopened, unwritten, opening_step, of_answer, noting}
 use Rattle.nfsgw.proofs.world.World.open_and_write.Goals as goal
 
 pub returns-in-Err-Store-clause-tries : goal.returns-in-Err-Store-clause-tries
@@ -21,15 +22,13 @@ returns-in-Err-Store-clause-tries g c =
     let a = c.not_written.ensures in
     let last = rw (← c.self.view_is) at c.requires.last in
     let closed = rw (← c.self.view_is) at c.requires.closed in
-    let mid : outside.Kept = record { opened = c.self.inside.cell; desk = c.self.inside.desk; noted = c.self.inside.trace } in
-    let s = g.C.Cluster.at c.args.cluster.now body_id in
-    let s' = g.C.Cluster.at c.open_file.new.cluster body_id in
-    let n = g.C.Cluster.count c.args.cluster.now in
-    let n' = g.C.Cluster.count c.open_file.new.cluster in
+    let mid : outside.ProgramState = record { opened = c.self.inside.cell; desk = c.self.inside.desk; noted = c.self.inside.trace } in
+    let s = store_view g.C.Cluster c.args.cluster.now in
+    let s' = store_view g.C.Cluster c.open_file.new.cluster in
     rw (← c.self.view_is) (record {
       text = _;
-      step = of_answer g.C.File.AppendFile.tells _ mid (noting c.open_file.new.trace mid) _ s s' n n' c.not_written.result _ _ (ap (λ t. t.number) a.ticket ∙ last) (ap body_of a.body) c.send.ensures.kept
-          (unopened g.C.File.AppendFile.tells mid s s' n n' _ (write_request c.args.request) closed last e);
+      step = of_answer g.C.File.AppendFile.tells _ mid (noting c.open_file.new.trace mid) _ s s' c.not_written.result _ _ (ap (λ t. t.number) a.ticket ∙ last) (ap body_of a.body) c.send.ensures.kept
+          (unopened g.C.File.AppendFile.tells mid s s' _ (write_request c.args.request) closed last e);
       is = c.send.ensures.text;
     })
 
@@ -38,14 +37,12 @@ returns-in-Err-Memory-clause-tries g c =
     let e = rw c.in-Err-Memory.field-0-is at c.in-Err-Memory.ensures.failed in
     let last = rw (← c.self.view_is) at c.requires.last in
     let closed = rw (← c.self.view_is) at c.requires.closed in
-    let mid : outside.Kept = record { opened = c.self.inside.cell; desk = c.self.inside.desk; noted = c.self.inside.trace } in
-    let s = g.C.Cluster.at c.args.cluster.now body_id in
-    let s' = g.C.Cluster.at c.open_file.new.cluster body_id in
-    let n = g.C.Cluster.count c.args.cluster.now in
-    let n' = g.C.Cluster.count c.open_file.new.cluster in
+    let mid : outside.ProgramState = record { opened = c.self.inside.cell; desk = c.self.inside.desk; noted = c.self.inside.trace } in
+    let s = store_view g.C.Cluster c.args.cluster.now in
+    let s' = store_view g.C.Cluster c.open_file.new.cluster in
     rw (← c.self.view_is) (record {
       text = _;
-      step = unwritten g.C.File.AppendFile.tells mid s s' n n' _ (write_request c.args.request) closed last _ e (c.refuse.ensures.kept ∙ ap (λ k. refusing k (noting c.open_file.new.trace mid)) last);
+      step = unwritten g.C.File.AppendFile.tells mid s s' _ (write_request c.args.request) closed last _ e (c.refuse.ensures.kept ∙ ap (λ k. with_refusal k (noting c.open_file.new.trace mid)) last);
       is = rw last at c.refuse.ensures.text;
     })
 
@@ -60,28 +57,25 @@ returns-in-NoMemory-clause-tries g c =
     let t = c.in-NoMemory.ensures.step in
     let last = rw (← c.self.view_is) at c.requires.last in
     let closed = rw (← c.self.view_is) at c.requires.closed in
-    let mid : outside.Kept = record { opened = c.self.inside.cell; desk = c.self.inside.desk; noted = c.self.inside.trace } in
-    let s = g.C.Cluster.at c.args.cluster.now body_id in
-    let s' = g.C.Cluster.at c.give_file.new.self body_id in
-    let n = g.C.Cluster.count c.args.cluster.now in
-    let n' = g.C.Cluster.count c.give_file.new.self in
+    let mid : outside.ProgramState = record { opened = c.self.inside.cell; desk = c.self.inside.desk; noted = c.self.inside.trace } in
+    let s = store_view g.C.Cluster c.args.cluster.now in
+    let s' = store_view g.C.Cluster c.give_file.new.self in
     let number = ap (λ t. t.number) t.0 ∙ last in
     let body = c.into_parts.ensures.body ∙ ap (λ x. x.file) t.1 in
-    let own : g.C.File.AppendFile.tells → s' ≡ Kept (g.C.File.AppendFile.content c.into_parts.result.body) (g.C.File.AppendFile.durable c.into_parts.result.body)
-    = λ told. c.give_file.ensures.own told (o.out told ∙ ap (λ x. Lent x.object) (sym body)) in
-    let first = o.later in
-    let second = c.give_file.ensures.count.later in
-    let e : Fails g.C.File.AppendFile.tells Memory s s' n n' mid.noted c.open_file.new.trace = record {
+    let own : g.C.File.AppendFile.tells → s'.body ≡ Kept (g.C.File.AppendFile.content c.into_parts.result.body) (g.C.File.AppendFile.durable c.into_parts.result.body)
+    = λ told. c.give_file.ensures.own told (o.out told ∙ ap (λ x. Lent x.mark) (sym body)) in
+    let mid_counts = (store_view g.C.Cluster c.open_file.new.cluster).counts in
+    let e : FailsClosed g.C.File.AppendFile.tells Memory s s' mid.noted c.open_file.new.trace = record {
       there = λ told. subst IsThere (sym (own told)) tt;
       same = λ told. ap bytes_of (own told) ∙ ap (λ x. x.content) body ∙ o.content told;
       calls = Good ∷ [];
       is = inr refl;
       noted_is = o.noted_is;
-      later = omega (arith, first, second);
+      counts = counted_back (Done ∷ []) s.counts mid_counts s'.counts _ o.counts c.give_file.ensures.count.later c.give_file.ensures.counted (ap (λ x. x.tally) body ∙ o.no_calls);
     } in
     rw (← c.self.view_is) (record {
       text = _;
-      step = unwritten g.C.File.AppendFile.tells mid s s' n n' _ (write_request c.args.request) closed last _ e (c.refuse-in-NoMemory.ensures.kept ∙ ap (λ k. refusing k (noting c.open_file.new.trace mid)) number);
+      step = unwritten g.C.File.AppendFile.tells mid s s' _ (write_request c.args.request) closed last _ e (c.refuse-in-NoMemory.ensures.kept ∙ ap (λ k. with_refusal k (noting c.open_file.new.trace mid)) number);
       is = rw number at c.refuse-in-NoMemory.ensures.text;
     })
 
@@ -92,23 +86,21 @@ returns-in_default g c =
     let t = c.write.ensures.step in
     let last = rw (← c.self.view_is) at c.requires.last in
     let closed = rw (← c.self.view_is) at c.requires.closed in
-    let mid : outside.Kept = record { opened = c.self.inside.cell; desk = c.self.inside.desk; noted = c.self.inside.trace } in
-    let s = g.C.Cluster.at c.args.cluster.now body_id in
-    let s' = g.C.Cluster.at c.open_file.new.cluster body_id in
-    let n = g.C.Cluster.count c.args.cluster.now in
-    let n' = g.C.Cluster.count c.open_file.new.cluster in
+    let mid : outside.ProgramState = record { opened = c.self.inside.cell; desk = c.self.inside.desk; noted = c.self.inside.trace } in
+    let s = store_view g.C.Cluster c.args.cluster.now in
+    let s' = store_view g.C.Cluster c.open_file.new.cluster in
     let e = not_want v c.in_default.not-NoMemory in
-    let kept = c.conclude.ensures.kept in
-    let noted : c.conclude.new.self.noted ≡ with_calls (Good ∷ []) c.self.inside.trace
-    = ap (λ (k : outside.Kept). k.noted) kept ∙ ap (λ b. noted_by b c.open_file.new.trace) e ∙ o.noted_is in
-    let file = told_file v c.args.request.ticket c.in-Ok.cell (side_write c.in-Ok.cell.limits c.in-Ok.cell.side (write_request c.args.request)) c.write.new.self t in
+    let kept = c.send_verdict.ensures.kept in
+    let noted : c.send_verdict.new.self.noted ≡ with_calls (Good ∷ []) c.self.inside.trace
+    = ap (λ (k : outside.ProgramState). k.noted) kept ∙ ap (λ b. noted_after b c.open_file.new.trace) e ∙ o.noted_is in
+    let file = told_file v c.args.request.ticket c.in-Ok.cell (side_write_step c.in-Ok.cell.limits c.in-Ok.cell.side (write_request c.args.request)) c.write.new.self t in
     record {
       tries = rw (← c.self.view_is, kept) (record {
         text = _;
-        step = opening_step g.C.File.AppendFile.tells mid s s' n n' _ (write_request c.args.request) closed last c.in-Ok.cell c.write.new.self c.args.request _ v o refl e t c.write.ensures.stands;
-        is = c.conclude.ensures.text;
+        step = opening_step g.C.File.AppendFile.tells mid s s' _ (write_request c.args.request) closed last c.in-Ok.cell c.write.new.self c.args.request _ v o refl e t c.write.ensures.stands;
+        is = c.send_verdict.ensures.text;
       });
-      home_after = rw kept (λ told. o.out told ∙ ap (λ x. Lent x.object) (sym file));
+      home_after = rw kept (λ told. o.out told ∙ ap (λ x. Lent x.mark) (sym file));
       others = c.in-Ok.ensures.others;
-      numbers = (ap (λ (x : Noted). x.event) noted ∙ ap (λ (k : outside.Kept). k.noted.event) c.self.view_is, ap (λ (x : Noted). x.request) noted ∙ ap (λ (k : outside.Kept). k.noted.request) c.self.view_is);
+      numbers = (ap (λ (x : TraceState). x.event) noted ∙ ap (λ (k : outside.ProgramState). k.noted.event) c.self.view_is, ap (λ (x : TraceState). x.request) noted ∙ ap (λ (k : outside.ProgramState). k.noted.request) c.self.view_is);
     }

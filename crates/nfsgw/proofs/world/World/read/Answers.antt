@@ -1,48 +1,44 @@
 use Rattle.std.proofs.Common.{refl, string_bytes}
-use Rattle.nfsgw.specs.Outside.{Kept, body_id}
-use Rattle.nfsgw.proofs.Acting.{always_err, breaks_room, step_ok, step_err, read_step, stored_step}
+use Rattle.nfsgw.specs.Outside.{ProgramState, store_view}
+use Rattle.nfsgw.proofs.WorldRequests.{always_err, breaks_room, step_ok, step_err, read_acts, stored_step}
 use Rattle.nfsgw.proofs.world.World.read.Goals as goal
 
 pub returns-in_err-ticket-clause-err : goal.returns-in_err-ticket-clause-err
-returns-in_err-ticket-clause-err g c = always_err c.from_residual.result (breaks_room g.C.File.AppendFile.tells _ _ _ (g.C.Cluster.at c.args.cluster.now body_id) (g.C.Cluster.count c.args.cluster.now) c.in_err-ticket.ensures.err)
+returns-in_err-ticket-clause-err g c = always_err c.from_residual.result (breaks_room g.C.File.AppendFile.tells _ _ _ (store_view g.C.Cluster c.args.cluster.now) c.in_err-ticket.ensures.err)
 
 pub returns-in-Some-clause-ok : goal.returns-in-Some-clause-ok
 returns-in-Some-clause-ok g c =
-    let s = g.C.Cluster.at c.args.cluster.now body_id in
-    let n = g.C.Cluster.count c.args.cluster.now in
-    let mid : Kept = record { opened = c.self.inside.cell; desk = c.self.inside.desk; noted = c.self.inside.trace } in
+    let s = store_view g.C.Cluster c.args.cluster.now in
+    let mid : ProgramState = record { opened = c.self.inside.cell; desk = c.self.inside.desk; noted = c.self.inside.trace } in
     let asked = rw (← c.self.view_is) at c.in_ok-ticket.ensures.ok in
-    rw c.conclude.ensures.kept
-    (step_ok string_bytes c.conclude.result _ _ _ _ _
-    (read_step g.C.File.AppendFile.tells c.args.conn 9 c.in_ok-ticket.ticket c.args.self.now mid s n c.in-Some.cell c.read-verdict.new.self c.read-verdict.result _ c.in-Some.is (rw c.in-Some.is at c.self.invariant.0) c.args.call _ asked refl c.read-verdict.ensures.step c.read-verdict.ensures.stands)
-    c.conclude.ensures.text)
+    rw c.send_verdict.ensures.kept
+    (step_ok string_bytes c.send_verdict.result _ _ _ _ _
+    (read_acts g.C.File.AppendFile.tells c.args.conn 9 c.in_ok-ticket.ticket c.args.self.now mid s c.in-Some.cell c.read-verdict.new.self c.read-verdict.result _ c.in-Some.is (rw c.in-Some.is at c.self.invariant.0) c.args.call _ asked refl c.read-verdict.ensures.step c.read-verdict.ensures.stands)
+    c.send_verdict.ensures.text)
 
 pub returns-in-Some-clause-err : goal.returns-in-Some-clause-err
 returns-in-Some-clause-err g c =
-    let s = g.C.Cluster.at c.args.cluster.now body_id in
-    let n = g.C.Cluster.count c.args.cluster.now in
-    let mid : Kept = record { opened = c.self.inside.cell; desk = c.self.inside.desk; noted = c.self.inside.trace } in
+    let s = store_view g.C.Cluster c.args.cluster.now in
+    let mid : ProgramState = record { opened = c.self.inside.cell; desk = c.self.inside.desk; noted = c.self.inside.trace } in
     let asked = rw (← c.self.view_is) at c.in_ok-ticket.ensures.ok in
-    rw c.conclude.ensures.kept
-    (step_err c.conclude.result _ _ _ _ _
-    (read_step g.C.File.AppendFile.tells c.args.conn 9 c.in_ok-ticket.ticket c.args.self.now mid s n c.in-Some.cell c.read-verdict.new.self c.read-verdict.result _ c.in-Some.is (rw c.in-Some.is at c.self.invariant.0) c.args.call _ asked refl c.read-verdict.ensures.step c.read-verdict.ensures.stands))
+    rw c.send_verdict.ensures.kept
+    (step_err c.send_verdict.result _ _ _ _ _
+    (read_acts g.C.File.AppendFile.tells c.args.conn 9 c.in_ok-ticket.ticket c.args.self.now mid s c.in-Some.cell c.read-verdict.new.self c.read-verdict.result _ c.in-Some.is (rw c.in-Some.is at c.self.invariant.0) c.args.call _ asked refl c.read-verdict.ensures.step c.read-verdict.ensures.stands))
 
 pub returns-in-None-clause-ok : goal.returns-in-None-clause-ok
 returns-in-None-clause-ok g c =
-    let s = g.C.Cluster.at c.args.cluster.now body_id in
-    let n = g.C.Cluster.count c.args.cluster.now in
-    let mid : Kept = record { opened = c.self.inside.cell; desk = c.self.inside.desk; noted = c.self.inside.trace } in
+    let s = store_view g.C.Cluster c.args.cluster.now in
+    let mid : ProgramState = record { opened = c.self.inside.cell; desk = c.self.inside.desk; noted = c.self.inside.trace } in
     let asked = rw (← c.self.view_is) at c.in_ok-ticket.ensures.ok in
     let t = c.read_closed.ensures.tries in
     step_ok string_bytes c.read_closed.result _ _ _ _ _
-    (stored_step g.C.File.AppendFile.tells c.args.conn 9 c.in_ok-ticket.ticket c.args.self.now mid s n c.args.call asked _ _ t.step) t.is
+    (stored_step g.C.File.AppendFile.tells c.args.conn 9 c.in_ok-ticket.ticket c.args.self.now mid s c.args.call asked _ _ t.step) t.is
 
 pub returns-in-None-clause-err : goal.returns-in-None-clause-err
 returns-in-None-clause-err g c =
-    let s = g.C.Cluster.at c.args.cluster.now body_id in
-    let n = g.C.Cluster.count c.args.cluster.now in
-    let mid : Kept = record { opened = c.self.inside.cell; desk = c.self.inside.desk; noted = c.self.inside.trace } in
+    let s = store_view g.C.Cluster c.args.cluster.now in
+    let mid : ProgramState = record { opened = c.self.inside.cell; desk = c.self.inside.desk; noted = c.self.inside.trace } in
     let asked = rw (← c.self.view_is) at c.in_ok-ticket.ensures.ok in
     let t = c.read_closed.ensures.tries in
     step_err c.read_closed.result _ _ _ _ _
-    (stored_step g.C.File.AppendFile.tells c.args.conn 9 c.in_ok-ticket.ticket c.args.self.now mid s n c.args.call asked _ _ t.step)
+    (stored_step g.C.File.AppendFile.tells c.args.conn 9 c.in_ok-ticket.ticket c.args.self.now mid s c.args.call asked _ _ t.step)

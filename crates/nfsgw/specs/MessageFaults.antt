@@ -4,12 +4,12 @@ use Rattle.rpc_msg.specs.declared.fault.CallFault.{CallFault}
 use Rattle.rpc_msg.specs.declared.fault.CallFault.TheVariants.{NotCall, RpcMismatch, BadCred, RejectedCred, Short, Memory}
 use Rattle.nfsgw.specs.declared.message.Refused.{Refused}
 use Rattle.nfsgw.specs.declared.message.Asked.{Asked}
-use Rattle.nfsgw.specs.declared.message.Asked.TheVariants.{Ends, Says, Reads, Writes}
+use Rattle.nfsgw.specs.declared.message.Asked.TheVariants as asked
 
 -- the request with this xid asks for this, or memory was wanting for it
-abbrev pub Gives : Result Asked Refused → ℕ → Asked → Type 0
-Gives (Ok a) xid asked = a ≡ asked
-Gives (Err e) xid asked = e.xid ≡ xid
+abbrev pub IsAskedOr : Result Asked Refused → ℕ → Asked → Type 0
+IsAskedOr (Ok a) xid asked = a ≡ asked
+IsAskedOr (Err e) xid asked = e.xid ≡ xid
 
 -- a fault of a message whose xid is this one
 abbrev pub HasXid : CallFault → ℕ → Type 0
@@ -22,7 +22,7 @@ HasXid (Memory xid) n = n ≡ xid
 
 -- it asks for something, under this number
 abbrev pub IsAskedBy : Asked → ℕ → Type 0
-IsAskedBy Ends n = ⊥
-IsAskedBy (Says xid reply) n = xid ≡ n
-IsAskedBy (Reads xid args) n = xid ≡ n
-IsAskedBy (Writes xid args) n = xid ≡ n
+IsAskedBy asked.Close n = ⊥
+IsAskedBy (asked.Reply xid reply) n = xid ≡ n
+IsAskedBy (asked.Read xid args) n = xid ≡ n
+IsAskedBy (asked.Write xid args) n = xid ≡ n

@@ -5,26 +5,26 @@ use Rattle.md5.specs.Md5.{md5, digest_bytes, hash_after, compress, rounds, block
 use Rattle.handles.specs.Handle.{handle_text, ids_text}
 use Rattle.xdr.specs.Items.{word, long}
 use Rattle.xdr.specs.Reading.{u32_at, u64_at, opaque_at, finish_at}
-use Rattle.rpc_msg.specs.Calls.{part_at, auth_at, sender_of, system_sender, groups_at, words_at, body_of, call_of}
-use Rattle.rpc_msg.specs.Replies.{accepted, mismatched, denied}
+use Rattle.rpc_msg.specs.Calls.{call_word_at, call_opaque_at, sender_of, system_sender, groups_at, words_at, call_body_at, call_of}
+use Rattle.rpc_msg.specs.Replies.{accepted_text, rpc_mismatch_text, denial_text}
 use Rattle.nfs_wire.specs.Arguments.{stable_at, read_at, write_at, nfs_arms, mount_arms, args_of}
 use Rattle.nfsgw.specs.declared.message.ReadArgs.{ReadArgs}
 use Rattle.nfsgw.specs.declared.message.WriteArgs.{WriteArgs}
 use Rattle.nfsgw.specs.declared.message.Asked.{Asked}
-use Rattle.nfsgw.specs.declared.message.Asked.TheVariants.{Ends, Says, Reads, Writes}
-use Rattle.nfsgw.specs.Messages.{asked_of, bars, refusal_of}
+use Rattle.nfsgw.specs.declared.message.Asked.TheVariants.{Close, Reply, Read, Write}
+use Rattle.nfsgw.specs.Messages.{asked_of, handle_status, refusal_of}
 
 abbrev words : List ℕ → List ℕ
 words [] = []
 words (w ∷ ws) = word w ++ words ws
 
 abbrev Asks : List ℕ → Asked → Type 0
-unfolding word u32_at u64_at opaque_at finish_at part_at auth_at sender_of system_sender groups_at words_at body_of call_of accepted mismatched denied stable_at read_at write_at nfs_arms mount_arms args_of
+unfolding word u32_at u64_at opaque_at finish_at call_word_at call_opaque_at sender_of system_sender groups_at words_at call_body_at call_of accepted_text rpc_mismatch_text denial_text stable_at read_at write_at nfs_arms mount_arms args_of
 Asks message asked = asked_of (words message) ≡ asked
 
 abbrev Says_words : ℕ → List ℕ → Asked
 unfolding word
-Says_words xid ws = Says xid (words ws)
+Says_words xid ws = Reply xid (words ws)
 
 -- NULL of NFS, and of MOUNT
 null_call : Asks (1 ∷ 0 ∷ 2 ∷ 100003 ∷ 3 ∷ 0 ∷ 0 ∷ 0 ∷ 0 ∷ 0 ∷ []) (Says_words 1 (1 ∷ 1 ∷ 0 ∷ 0 ∷ 0 ∷ 0 ∷ []))
@@ -63,7 +63,7 @@ handle_four = words (0 ∷ 4 ∷ 0 ∷ 1 ∷ 0x21e0f297 ∷ 0x5a84e78c ∷ 0xec5
 abbrev args_a : ℕ → WriteArgs
 args_a count = record { handle = handle_four; offset = 1; count = count; «data» = codes "a" }
 
-write_call : Asks (write_a []) (Writes 5 (args_a 1))
+write_call : Asks (write_a []) (Write 5 (args_a 1))
 unfolding Asks
 write_call = refl
 
@@ -78,7 +78,7 @@ read_five rest = 10 ∷ 0 ∷ 2 ∷ 100003 ∷ 3 ∷ 6 ∷ 0 ∷ 0 ∷ 0 ∷ 0 �
 abbrev args_five : ReadArgs
 args_five = record { handle = handle_four; offset = 0x100000002; count = 5 }
 
-read_call : Asks (read_five []) (Reads 10 args_five)
+read_call : Asks (read_five []) (Read 10 args_five)
 unfolding Asks
 read_call = refl
 
@@ -101,11 +101,11 @@ unfolding Asks Says_words
 bad_credential = refl
 
 -- a reply, and a call that breaks off
-not_call : Asks (9 ∷ 1 ∷ []) Ends
+not_call : Asks (9 ∷ 1 ∷ []) Close
 unfolding Asks
 not_call = refl
 
-short : Asks (7 ∷ 0 ∷ 2 ∷ []) Ends
+short : Asks (7 ∷ 0 ∷ 2 ∷ []) Close
 unfolding Asks
 short = refl
 
@@ -132,7 +132,7 @@ no_handle = refl
 -- of a READ the handle alone is judged
 abbrev Bars : Bool → ReadArgs → Option ℕ → Type 0
 unfolding md5 digest_bytes hash_after compress rounds block_words word long handle_text ids_text
-Bars in_tree q status = bars in_tree q.handle ≡ status
+Bars in_tree q status = handle_status in_tree q.handle ≡ status
 
 read_taken : Bars true args_five None
 unfolding Bars
