@@ -135,17 +135,36 @@ fn lists_what_is_there(rt: HostRuntime) -> Result<(), Fail> {
     Ok(())
 }
 
+// Puts "abcde" into a file; the first 3 bytes of it are durable.
+fn writes_five<F: AppendFile>(file: &mut F) -> bool
+    ensures mark { F.tells → F.mark file.new ≡ F.mark file.old }
+{
+    file.append(b"abc").is_ok() && file.hsync().is_ok() && file.append(b"de").is_ok()
+}
+
+// Makes the body in a store where nothing is, with "abcde" in it.
+fn stores_five<C: Cluster>(cluster: &mut C) -> bool
+    requires { C.File.tells → (q : ObjectId) → C.at cluster.old q ≡ Missing }
+    ensures there { result ≡ true → C.File.tells → IsThere (C.at cluster.new BODY) }
+    ensures none_out { result ≡ true → C.File.tells → (q : ObjectId) → IsAway (C.at cluster.new q) → ⊥ }
+{
+    if !makes_body(cluster) {
+        return false;
+    }
+    let Ok(mut file) = cluster.take_file(BODY) else {
+        return false;
+    };
+    let written = writes_five(&mut file);
+    cluster.give_file(BODY, file);
+    written
+}
+
 // Of "abcde" the first 3 bytes are durable, and the crash keeps one more.
 #[test]
 fn reopens_with_what_is_durable(rt: HostRuntime) -> Result<(), Fail> {
     let alloc = rt.alloc();
     let mut cluster = MemCluster::new(alloc, Vec::new(alloc));
-    assert!(rt; makes_body(&mut cluster));
-    let mut file = cluster.take_file(BODY).map_err(|_| "taken")?;
-    assert_eq!(rt; file.append(b"abc"), Ok(()));
-    assert_eq!(rt; file.hsync(), Ok(()));
-    assert_eq!(rt; file.append(b"de"), Ok(()));
-    cluster.give_file(BODY, file);
+    assert!(rt; stores_five(&mut cluster));
     assert_eq!(rt; cluster.reopen(1), Ok(()));
     let mut out = *b"------";
     assert_eq!(rt; cluster.read_closed(BODY, 1, &mut out), Ok(3));

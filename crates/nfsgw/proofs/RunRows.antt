@@ -162,6 +162,6 @@ memory_refused_behind_the_opening : Writes (codes "file data\nbytes 1 8000006800
 unfolding Writes
 memory_refused_behind_the_opening = (refl, record { text = refl; content = refl; stop = refl; used = record { left = refl; mismatched = refl } })
 
-leading_zero_in_turn : StopsAt 1 (codes "turn_step 04\n") [] [] []
+leading_zero_in_turn : StopsAt 1 (codes "turn 04\n") [] [] []
 unfolding StopsAt
 leading_zero_in_turn = ((bad_is_not_end, refl), record { text = refl; content = refl; stop = refl; used = record { left = refl; mismatched = refl } })
