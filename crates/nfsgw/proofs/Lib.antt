@@ -12,6 +12,7 @@ pub mod WorldGrowth
 pub mod WorldRequests
 pub mod WorldClosed
 pub mod WorldCreation
+pub mod WorldLosses
 pub mod WorldTurns
 pub mod LinkMap
 pub mod GatewayActs

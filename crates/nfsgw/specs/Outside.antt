@@ -11,7 +11,7 @@ use Rattle.gw_outside.specs.declared.tally.Tally.{Tally}
 use Rattle.gw_outside.specs.Tally.{joined_tally}
 use Rattle.tickets.specs.Desk.{DeskState}
 use Rattle.append_store.specs.declared.store.Cluster.{Ghosts}
-use Rattle.append_store.specs.State.{ObjectState, Lent, IsThere, IsAway, bytes_of}
+use Rattle.append_store.specs.State.{ObjectState, Missing, Lent, IsThere, IsAway, bytes_of}
 use Rattle.file_cell.specs.State.{CellState}
 use Rattle.file_cell.specs.Files.{StandsFor}
 use Rattle.gw_outside.specs.Writing.{IsPrefix}
@@ -46,9 +46,27 @@ store_with body faults tally = record { body = body; counts = record { faults = 
 abbrev pub store_view : {C F : Type 0} → Ghosts C F → C → Store
 store_view g c = record { body = g.at c body_id; counts = record { faults = g.count c; tally = g.tally c } }
 
+-- an object is as it was, and lost nothing
+pub record IsUnchanged (old new : ObjectState) (before now : ℕ) : Type 0 where
+  pub same : new ≡ old
+  pub losses : now ≡ before
+
+-- what was there is still there or out, and nothing was lost
+pub record IsUnharmed (old new : ObjectState) (before now : ℕ) : Type 0 where
+  pub there : old ≢ Missing → new ≢ Missing
+  pub losses : now ≡ before
+
 -- no other object is changed
 abbrev pub OthersStay : {C F : Type 0} → Ghosts C F → Type 0 → C → C → Type 0
-OthersStay g tells c c' = tells → (q : ObjectId) → q ≢ body_id → g.at c' q ≡ g.at c q
+OthersStay g tells c c' = tells → (q : ObjectId) → q ≢ body_id → IsUnchanged (g.at c q) (g.at c' q) (g.losses c q) (g.losses c' q)
+
+-- the body loses nothing
+abbrev pub LossesStay : {C F : Type 0} → Ghosts C F → Type 0 → C → C → Type 0
+LossesStay g tells c c' = tells → IsUnharmed (g.at c body_id) (g.at c' body_id) (g.losses c body_id) (g.losses c' body_id)
+
+-- the body loses nothing where it is there: a creation may lose what it made
+abbrev pub LossesStayOnceThere : {C F : Type 0} → Ghosts C F → Type 0 → C → C → Type 0
+LossesStayOnceThere g tells c c' = tells → g.at c body_id ≢ Missing → IsUnharmed (g.at c body_id) (g.at c' body_id) (g.losses c body_id) (g.losses c' body_id)
 
 -- what the program keeps
 

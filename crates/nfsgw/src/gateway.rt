@@ -5,7 +5,7 @@ ghost use Rattle.nfsgw.specs.WorldSteps.{history_left};
 ghost use Rattle.nfsgw.specs.Links.{hearing_of, link_on, hearing_at};
 ghost use Rattle.nfsgw.specs.Requests.{act_of, act_in, IsFitting};
 ghost use Rattle.nfsgw.specs.World.{World as WorldState, end_text};
-ghost use Rattle.nfsgw.specs.Outside.{body_id, body_at, scene_of, store_view, without_outcomes, OthersStay, HasRisen, GivesBack, IsBodySafe, IsBodyPlaced, IsLocated, IsOpen, MayHappen, IsText, IsActCut, Cuts, IsServed, IsPieceServed, IsReceived, IsEventStep};
+ghost use Rattle.nfsgw.specs.Outside.{body_id, body_at, scene_of, store_view, without_outcomes, OthersStay, LossesStay, LossesStayOnceThere, HasRisen, GivesBack, IsBodySafe, IsBodyPlaced, IsLocated, IsOpen, MayHappen, IsText, IsActCut, Cuts, IsServed, IsPieceServed, IsReceived, IsEventStep};
 ghost use Rattle.nfsgw.specs.RunSteps.{idle_gateway};
 
 use crate::grammar::Event;
@@ -62,6 +62,7 @@ fn serve_request<C: Cluster>(
         → IsBodyPlaced C.File.tells in_tree (C.at cluster.old body_id) world.old.opened
         → IsBodyPlaced C.File.tells in_tree (C.at cluster.new body_id) world.new.opened }
     ensures others { OthersStay C.Cluster C.File.tells cluster.old cluster.new }
+    ensures losses { LossesStay C.Cluster C.File.tells cluster.old cluster.new }
     ensures event { world.new.noted.event ≡ world.old.noted.event }
 {
     let ended = matches!(request, Request::Close);
@@ -90,6 +91,7 @@ fn serve_message<C: Cluster>(
         (scene_of C.Cluster world.old cluster.old) (scene_of C.Cluster world.new cluster.new)) }
     ensures stands_after { IsBodyPlaced C.File.tells in_tree (C.at cluster.new body_id) world.new.opened }
     ensures others { OthersStay C.Cluster C.File.tells cluster.old cluster.new }
+    ensures losses { LossesStay C.Cluster C.File.tells cluster.old cluster.new }
     ensures event { world.new.noted.event ≡ world.old.noted.event }
 {
     match read_request(alloc, in_tree, message) {
@@ -126,6 +128,7 @@ fn serve_piece<C: Cluster>(
         (scene_of C.Cluster world.old cluster.old) (scene_of C.Cluster world.new cluster.new)) }
     ensures stands_after { IsBodyPlaced C.File.tells in_tree (C.at cluster.new body_id) world.new.opened }
     ensures others { OthersStay C.Cluster C.File.tells cluster.old cluster.new }
+    ensures losses { LossesStay C.Cluster C.File.tells cluster.old cluster.new }
     ensures event { world.new.noted.event ≡ world.old.noted.event }
 {
     let mut text = String::new(alloc);
@@ -178,6 +181,7 @@ impl<C: Cluster> Gateway<C> {
             (scene_of C.Cluster self.old.kept cluster.old) (scene_of C.Cluster self.new.kept cluster.new)) }
         ensures stands_after { IsBodyPlaced C.File.tells self.old.front.in_tree (C.at cluster.new body_id) self.new.kept.opened }
         ensures others { OthersStay C.Cluster C.File.tells cluster.old cluster.new }
+        ensures losses { LossesStay C.Cluster C.File.tells cluster.old cluster.new }
         ensures same_tree { self.new.front.in_tree ≡ self.old.front.in_tree }
         ensures event { self.new.kept.noted.event ≡ self.old.kept.noted.event }
     {
@@ -206,6 +210,7 @@ impl<C: Cluster> Gateway<C> {
             (scene_of C.Cluster self.old.kept cluster.old) (scene_of C.Cluster self.new.kept cluster.new) }
         ensures event { self.new.kept.noted.event ≤ self.old.kept.noted.event + 1 }
         ensures others { OthersStay C.Cluster C.File.tells cluster.old cluster.new }
+        ensures losses { LossesStayOnceThere C.Cluster C.File.tells cluster.old cluster.new }
         ensures safe { IsBodySafe C.File.tells (C.at cluster.new body_id) self.new.kept.opened }
         ensures stands_after { IsText result
             → IsBodyPlaced C.File.tells self.new.front.in_tree (C.at cluster.new body_id) self.new.kept.opened }
@@ -231,6 +236,7 @@ impl<C: Cluster> Gateway<C> {
         ensures bytes { C.File.tells → bytes_of (C.at cluster.new body_id) ≡ body_at (C.at cluster.old body_id) self.kept.opened }
         ensures home { C.File.tells → IsAway (C.at cluster.new body_id) → ⊥ }
         ensures others { OthersStay C.Cluster C.File.tells cluster.old cluster.new }
+        ensures losses { LossesStay C.Cluster C.File.tells cluster.old cluster.new }
         ensures counts { GivesBack (store_view C.Cluster cluster.old).counts self.kept.opened (store_view C.Cluster cluster.new).counts }
         ensures history { (body : List ℕ) (w : WorldState) → IsOpen self.kept.opened body w
             → history_left result ≡ end_text w.opened }

@@ -3,7 +3,7 @@ ghost use Rattle.std.specs.Prelude.{◌≡◌, ◌≢◌, ◌<◌, min, IfErr, I
 ghost use Rattle.gw_model.specs.declared.object.ObjectId.{ObjectId};
 ghost use Rattle.append_store.specs.State.{IsThere};
 ghost use Rattle.nfsgw.specs.Opening.{IsOpened, IsStoredPart, FailsClosed};
-ghost use Rattle.nfsgw.specs.Outside.{body_id, store_view, OthersStay};
+ghost use Rattle.nfsgw.specs.Outside.{body_id, store_view, OthersStay, LossesStay};
 
 use crate::limits::{LINE_SLOTS, default_limits};
 use append_store::{AppendFile, Cluster};
@@ -48,6 +48,7 @@ pub fn open_file<C: Cluster>(
     ensures failed { IfErr result (λ f. FailsClosed C.File.tells f
         (store_view C.Cluster cluster.old) (store_view C.Cluster cluster.new) trace.old trace.new) }
     ensures others { OthersStay C.Cluster C.File.tells cluster.old cluster.new }
+    ensures losses { LossesStay C.Cluster C.File.tells cluster.old cluster.new }
 {
     let Ok(ends) = open_line(alloc, LINE_SLOTS) else {
         return Err(Failure::Memory);
@@ -92,6 +93,7 @@ pub fn read_body<C: Cluster>(
     ensures failed { IfErr result (λ f. FailsClosed C.File.tells f
         (store_view C.Cluster cluster.old) (store_view C.Cluster cluster.new) trace.old trace.new) }
     ensures same { C.File.tells → (q : ObjectId) → C.at cluster.new q ≡ C.at cluster.old q }
+    ensures no_losses { C.File.tells → (q : ObjectId) → C.losses cluster.new q ≡ C.losses cluster.old q }
 {
     let most = count.min(MOST) as usize;
     let mut bytes = Vec::new(alloc);

@@ -5,7 +5,7 @@ ghost use Rattle.append_store.specs.State.{IsAway};
 ghost use Rattle.transcript.specs.Script.{max_lines};
 ghost use Rattle.nfsgw.specs.WorldSteps.{history_left};
 ghost use Rattle.nfsgw.specs.Headline.{IsReplay, IsComplete, Runs};
-ghost use Rattle.nfsgw.specs.Outside.{body_id, outside_of, OthersStay, HasRisen, IsBodySafe, IsBodyPlaced, MayHappen};
+ghost use Rattle.nfsgw.specs.Outside.{body_id, outside_of, OthersStay, LossesStayOnceThere, HasRisen, IsBodySafe, IsBodyPlaced, MayHappen};
 ghost use Rattle.nfsgw.specs.RunSteps.{initial_state, LineStep, LinesEnd, IsEventOutcome, IsHistoryWritten, idle_gateway, status_by};
 
 use crate::gateway::Gateway;
@@ -64,6 +64,7 @@ fn one_event<K: Sink, C: Cluster>(
         (outside_of C.Cluster gateway.new.kept left (K.held sink.new) cluster.new) }
     ensures event { gateway.new.kept.noted.event ≤ gateway.old.kept.noted.event + 1 }
     ensures others { OthersStay C.Cluster C.File.tells cluster.old cluster.new }
+    ensures losses { LossesStayOnceThere C.Cluster C.File.tells cluster.old cluster.new }
     ensures safe { IsBodySafe C.File.tells (C.at cluster.new body_id) gateway.new.kept.opened }
     ensures stands_after { result ≡ LineOutcome.Continue
         → IsBodyPlaced C.File.tells gateway.new.front.in_tree (C.at cluster.new body_id) gateway.new.kept.opened }
@@ -105,6 +106,7 @@ fn one_line<S: Source, K: Sink, C: Cluster>(
         (outside_of C.Cluster gateway.new.kept (S.left source.new) (K.held sink.new) cluster.new) }
     ensures events_after { gateway.new.kept.noted.event ≤ before + 1 }
     ensures others { OthersStay C.Cluster C.File.tells cluster.old cluster.new }
+    ensures losses { LossesStayOnceThere C.Cluster C.File.tells cluster.old cluster.new }
     ensures stands_after { result ≡ LineOutcome.Continue
         → IsBodyPlaced C.File.tells gateway.new.front.in_tree (C.at cluster.new body_id) gateway.new.kept.opened }
     ensures safe { IsBodySafe C.File.tells (C.at cluster.new body_id) gateway.new.kept.opened }
@@ -144,6 +146,7 @@ fn all_lines<S: Source, K: Sink, C: Cluster>(
         (outside_of C.Cluster gateway.new.kept (S.left source.new) (K.held sink.new) cluster.new) }
     ensures few { result.lines ≤ max_lines }
     ensures others { OthersStay C.Cluster C.File.tells cluster.old cluster.new }
+    ensures losses { LossesStayOnceThere C.Cluster C.File.tells cluster.old cluster.new }
     ensures safe { IsBodySafe C.File.tells (C.at cluster.new body_id) gateway.new.kept.opened }
     ensures source_later { S.count source.old ≤ S.count source.new }
     ensures sink_later { K.count sink.old ≤ K.count sink.new }
@@ -217,6 +220,7 @@ fn replay<S: Source, K: Sink, C: Cluster>(
     ensures write_cause { result ≡ Status.WriteFault → Rose (K.count sink.old) (K.count sink.new) }
     ensures store_cause { result ≡ Status.StoreFault → Rose (C.count cluster.old) (C.count cluster.new) }
     ensures others { OthersStay C.Cluster C.File.tells cluster.old cluster.new }
+    ensures losses { LossesStayOnceThere C.Cluster C.File.tells cluster.old cluster.new }
     ensures not_usage { result ≢ Status.Usage }
 {
     let mut gateway = Gateway::new(alloc);
@@ -260,8 +264,10 @@ pub fn run_command<S: Source, K: Sink, C: Cluster>(
         (outside_of C.Cluster initial_state (S.left source.new) (K.held sink.new) cluster.new) }
     // The body isn't out afterwards.
     ensures home { C.File.tells → IsAway (C.at cluster.new body_id) → ⊥ }
-    // No other object is changed.
+    // No other object is changed, or loses anything.
     ensures others { OthersStay C.Cluster C.File.tells cluster.old cluster.new }
+    // The body loses nothing where it was there, and is there still.
+    ensures losses { LossesStayOnceThere C.Cluster C.File.tells cluster.old cluster.new }
     // The words are refused exactly where they are no command.
     ensures usage { (result ≡ Status.Usage) ↔ ¬ (IsReplay (map string_bytes words.now.items)) }
     // A fault is answered only where that object's count rose.

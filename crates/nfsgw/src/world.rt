@@ -10,7 +10,7 @@ ghost use Rattle.nfsgw.specs.Requests.{IsRequest};
 ghost use Rattle.tickets.specs.Answers.{IsPlain, answer_of};
 ghost use Rattle.admit.specs.Calls.{verdict_answers, write_request};
 ghost use Rattle.nfsgw.specs.World.{World as WorldState, end_text, read_action, send_result, text_to, request_result, write_act_result};
-ghost use Rattle.nfsgw.specs.Outside.{body_id, body_at, scene, scene_of, store_view, store_with, without_outcomes, OthersStay, GivesBack, IsBodySafe, IsBodyHome, IsText, StepsTo, IsActCut, IsActed, IsOpen};
+ghost use Rattle.nfsgw.specs.Outside.{body_id, body_at, scene, scene_of, store_view, store_with, without_outcomes, OthersStay, LossesStay, LossesStayOnceThere, GivesBack, IsBodySafe, IsBodyHome, IsText, StepsTo, IsActCut, IsActed, IsOpen};
 ghost use Rattle.nfsgw.specs.RunSteps.{initial_state};
 ghost use Rattle.nfsgw.specs.WorldSteps.{IsPlainAnswer, IsPlainVerdict, IsAsked, IsJob, first_answers, SameSettings, is_want_in, SameButRoom, SameFile, SameNumbers, Tries, history_left, refusal_answers, with_refusal, with_sent, with_verdict};
 
@@ -160,6 +160,7 @@ impl<C: Cluster> World<C> {
         ensures safe_after { IsBodySafe C.File.tells (C.at cluster.new body_id) None }
         ensures home { IsText result → IsBodyHome C.File.tells (C.at cluster.new body_id) None }
         ensures others { OthersStay C.Cluster C.File.tells cluster.old cluster.new }
+        ensures losses { LossesStayOnceThere C.Cluster C.File.tells cluster.old cluster.new }
         ensures event { self.new.noted.event ≡ self.old.noted.event }
         ensures cause { result ≡ StepResult.StoreFault → Rose (C.count cluster.old) (C.count cluster.new) }
     {
@@ -294,6 +295,7 @@ impl<C: Cluster> World<C> {
             (λ x. IfOk result (λ t. string_bytes t ≡ x)) }
         ensures home_after { IsBodyHome C.File.tells (C.at cluster.new body_id) self.new.opened }
         ensures others { OthersStay C.Cluster C.File.tells cluster.old cluster.new }
+        ensures losses { LossesStay C.Cluster C.File.tells cluster.old cluster.new }
         ensures numbers { SameNumbers self.old self.new }
     {
         let mut cell = match open_file(self.alloc, cluster, &mut self.trace) {
@@ -329,6 +331,7 @@ impl<C: Cluster> World<C> {
             (scene_of C.Cluster self.old cluster.old) (scene_of C.Cluster self.new cluster.new)) }
         ensures home_after { IsBodyHome C.File.tells (C.at cluster.new body_id) self.new.opened }
         ensures others { OthersStay C.Cluster C.File.tells cluster.old cluster.new }
+        ensures losses { LossesStay C.Cluster C.File.tells cluster.old cluster.new }
         ensures event { self.new.noted.event ≡ self.old.noted.event }
     {
         let ticket = self.begin_request(conn, call.xid)?;
@@ -365,6 +368,7 @@ impl<C: Cluster> World<C> {
         ensures closed_after { self.new.opened ≡ None }
         ensures home_after { IsBodyHome C.File.tells (C.at cluster.new body_id) None }
         ensures others { OthersStay C.Cluster C.File.tells cluster.old cluster.new }
+        ensures losses { LossesStay C.Cluster C.File.tells cluster.old cluster.new }
         ensures numbers { SameNumbers self.old self.new }
     {
         match read_body(
@@ -391,6 +395,7 @@ impl<C: Cluster> World<C> {
             (scene_of C.Cluster self.old cluster.old) (scene_of C.Cluster self.new cluster.new)) }
         ensures home_after { IsBodyHome C.File.tells (C.at cluster.new body_id) self.new.opened }
         ensures others { OthersStay C.Cluster C.File.tells cluster.old cluster.new }
+        ensures losses { LossesStay C.Cluster C.File.tells cluster.old cluster.new }
         ensures event { self.new.noted.event ≡ self.old.noted.event }
     {
         let ticket = self.begin_request(conn, call.xid)?;
@@ -459,6 +464,7 @@ impl<C: Cluster> World<C> {
         ensures bytes { C.File.tells → bytes_of (C.at cluster.new body_id) ≡ body_at (C.at cluster.old body_id) self.opened }
         ensures home { C.File.tells → IsAway (C.at cluster.new body_id) → ⊥ }
         ensures others { OthersStay C.Cluster C.File.tells cluster.old cluster.new }
+        ensures losses { LossesStay C.Cluster C.File.tells cluster.old cluster.new }
         ensures counts { GivesBack (store_view C.Cluster cluster.old).counts self.opened (store_view C.Cluster cluster.new).counts }
         ensures history { (body : List ℕ) (w : WorldState) → IsOpen self.opened body w → history_left result ≡ end_text w.opened }
     {

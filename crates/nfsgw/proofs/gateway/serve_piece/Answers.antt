@@ -2,13 +2,15 @@ use Rattle.std.proofs.Common.{◌≡◌, ◌++◌, length, true, false, refl, �
 use Rattle.nfsgw.proofs.GatewayEvents.{always_err}
 use Rattle.nfsgw.specs.Outside.{body_id}
 use Rattle.nfsgw.proofs.GatewayPieces.{hears_start, hears_cut, hears_more, hears_fault, hears_fault_cut, hears_faulted_cut, hears_record_cut, hears_served_cut, hears_end, hears_next, less_ahead}
+use Rattle.nfsgw.proofs.WorldLosses.{others_still, losses_still, others_then, losses_then}
 use Rattle.nfsgw.proofs.gateway.serve_piece.Goals as goal
 
 pub loop-text-init : goal.loop-text-init
 loop-text-init g c = record {
   hears = rw c.new-text.ensures.bytes (hears_start g.C.File.AppendFile.tells c.args.in_tree c.args.conn c.args.stream.now c.args.piece.now _);
   stands = c.requires.stands;
-  others = λ told q apart. refl;
+  others = others_still g.C.Cluster g.C.File.AppendFile.tells _;
+  losses = losses_still g.C.Cluster g.C.File.AppendFile.tells _;
   event = refl;
 }
 
@@ -75,9 +77,13 @@ loop-text-preserved g c =
       hears = rw c.behind-rest.ensures (hears_next g.C.File.AppendFile.tells _ _ _ _ _ _ _ _ c.loop-text.invariant.hears c.in-Record.message c.in-Record.taken heard.0 c.in_ok-served-in-Record.served _ e.ok
           c.hear.new.self (string_bytes c.push_str-in-Record.new.self) c.if-served.false heard.2 text);
       stands = e.stands_after;
-      others = λ told q apart. e.others told q apart ∙ c.loop-text.invariant.others told q apart;
+      others = others_then g.C.Cluster g.C.File.AppendFile.tells _ _ _ c.loop-text.invariant.others e.others;
+      losses = losses_then g.C.Cluster g.C.File.AppendFile.tells _ _ _ c.loop-text.invariant.losses e.losses;
       event = e.event ∙ c.loop-text.invariant.event;
     }
 
 pub returns-then-served-clause-others : goal.returns-then-served-clause-others
-returns-then-served-clause-others g c = λ told q apart. c.in_ok-served-in-Record.ensures.others told q apart ∙ c.loop-text.invariant.others told q apart
+returns-then-served-clause-others g c = others_then g.C.Cluster g.C.File.AppendFile.tells _ _ _ c.loop-text.invariant.others c.in_ok-served-in-Record.ensures.others
+
+pub returns-then-served-clause-losses : goal.returns-then-served-clause-losses
+returns-then-served-clause-losses g c = losses_then g.C.Cluster g.C.File.AppendFile.tells _ _ _ c.loop-text.invariant.losses c.in_ok-served-in-Record.ensures.losses

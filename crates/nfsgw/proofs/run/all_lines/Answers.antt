@@ -6,6 +6,7 @@ use Rattle.nfsgw.specs.Outside.{outside_of}
 use Rattle.nfsgw.specs.RunSteps.{initial_state}
 use Rattle.nfsgw.proofs.RunLines.{reached_start, reached_more, reached_end, reached_late}
 use Rattle.nfsgw.proofs.GatewayReady.{stands_safe}
+use Rattle.nfsgw.proofs.WorldLosses.{others_still, losses_still, losses_once, others_then, losses_once_then}
 use Rattle.nfsgw.proofs.run.all_lines.Goals as goal
 
 pub loop-before-init : goal.loop-before-init
@@ -14,7 +15,8 @@ loop-before-init g c = record {
   events = rw c.requires.fresh (omega arith);
   stands = rw c.requires.fresh (refl, c.requires.home);
   first = λ e. rw c.requires.fresh refl;
-  others = λ told q apart. refl;
+  others = others_still g.C.Cluster g.C.File.AppendFile.tells _;
+  losses = losses_once g.C.Cluster g.C.File.AppendFile.tells _ _ (losses_still g.C.Cluster g.C.File.AppendFile.tells _);
   source_later = omega arith;
   sink_later = omega arith;
 }
@@ -28,7 +30,8 @@ returns-in_default g c =
     record {
       moves = reached_end g.C.File.AppendFile.tells c.one_line.result _ _ _ _ _ c.in_default.not-Continue h inv.reached e.moves;
       few = omega arith;
-      others = λ told q apart. e.others told q apart ∙ inv.others told q apart;
+      others = others_then g.C.Cluster g.C.File.AppendFile.tells _ _ _ inv.others e.others;
+      losses = losses_once_then g.C.Cluster g.C.File.AppendFile.tells _ _ _ inv.losses e.losses;
       safe = e.safe;
       source_later = omega arith;
       sink_later = omega arith;
@@ -47,7 +50,8 @@ loop-before-preserved g c =
       events = e.events_after;
       stands = e.stands_after refl;
       first = λ e. absurd (cc (sym no ∙ e));
-      others = λ told q apart. e.others told q apart ∙ inv.others told q apart;
+      others = others_then g.C.Cluster g.C.File.AppendFile.tells _ _ _ inv.others e.others;
+      losses = losses_once_then g.C.Cluster g.C.File.AppendFile.tells _ _ _ inv.losses e.losses;
       source_later = omega arith;
       sink_later = omega arith;
     }

@@ -1,6 +1,6 @@
 use Rattle.std.proofs.Common.{◌≡◌, ◌≢◌, ◌≤◌, true, false}
 use Rattle.std.specs.Prelude.{◌==◌}
-use Rattle.nfsgw.specs.Outside.{body_id, outside_of, OthersStay, IsBodyPlaced}
+use Rattle.nfsgw.specs.Outside.{body_id, outside_of, OthersStay, LossesStayOnceThere, IsBodyPlaced}
 use Rattle.nfsgw.specs.RunSteps.{Reached, initial_state}
 use Rattle.nfsgw.proofs.run.all_lines.Given as goal
 
@@ -13,6 +13,7 @@ invariant-loop-before g l = record {
   stands : IsBodyPlaced g.C.File.AppendFile.tells l.gateway.front.in_tree (g.C.Cluster.at l.cluster body_id) l.gateway.kept.opened;
   first : (l.before == 0) ≡ true → l.gateway.front.in_tree ≡ false;
   others : OthersStay g.C.Cluster g.C.File.AppendFile.tells l.fn.cluster l.cluster;
+  losses : LossesStayOnceThere g.C.Cluster g.C.File.AppendFile.tells l.fn.cluster l.cluster;
   source_later : g.S.Source.count l.fn.source ≤ g.S.Source.count l.source;
   sink_later : g.K.Sink.count l.fn.sink ≤ g.K.Sink.count l.sink;
 }

@@ -3,6 +3,7 @@ use Rattle.append_store.specs.State.{bytes_of}
 use Rattle.nfsgw.specs.Outside.{body_id, body_at, store_view}
 use Rattle.nfsgw.specs.WorldSteps.{history_left}
 use Rattle.nfsgw.proofs.RunEnd.{end_text_is, runs_whole, runs_short, runs_cut, status_read, status_write, status_store, status_usage}
+use Rattle.nfsgw.proofs.WorldLosses.{losses_once, others_then, losses_once_then}
 use Rattle.nfsgw.proofs.run.replay.Goals as goal
 
 pub returns-in-StoreFault-clause-run : goal.returns-in-StoreFault-clause-run
@@ -31,7 +32,8 @@ returns-in-Whole g c =
       read_cause = λ q. e.read_cause (status_read ending.outcome ending.lines (sym s ∙ q));
       write_cause = λ q. absurd (c.in_default.not-WriteFault (status_write ending.outcome ending.lines (sym s ∙ q)));
       store_cause = λ q. absurd (c.in_default.not-StoreFault (status_store ending.outcome ending.lines (sym s ∙ q)));
-      others = λ told q apart. c.finish-ended.ensures.others told q apart ∙ e.others told q apart;
+      others = others_then g.C.Cluster g.C.File.AppendFile.tells _ _ _ e.others c.finish-ended.ensures.others;
+      losses = losses_once_then g.C.Cluster g.C.File.AppendFile.tells _ _ _ e.losses (losses_once g.C.Cluster g.C.File.AppendFile.tells _ _ c.finish-ended.ensures.losses);
       not_usage = λ q. status_usage ending.outcome ending.lines (sym s ∙ q);
     }
 
@@ -52,6 +54,7 @@ returns-in-WriteFault g c =
       read_cause = λ q. cc;
       write_cause = λ q. omega (arith, rose, later);
       store_cause = λ q. cc;
-      others = λ told q apart. c.finish-ended.ensures.others told q apart ∙ e.others told q apart;
+      others = others_then g.C.Cluster g.C.File.AppendFile.tells _ _ _ e.others c.finish-ended.ensures.others;
+      losses = losses_once_then g.C.Cluster g.C.File.AppendFile.tells _ _ _ e.losses (losses_once g.C.Cluster g.C.File.AppendFile.tells _ _ c.finish-ended.ensures.losses);
       not_usage = λ q. cc;
     }

@@ -31,3 +31,9 @@ returns-clause-counts g c =
       faults = subst (λ (x : FileSeen). Carries before.faults x.faults after.faults) body c.give_file.ensures.count;
       tally = c.give_file.ensures.counted ∙ ap (λ (x : FileSeen). joined_tally before.tally x.tally) body;
     })
+
+pub returns-clause-others : goal.returns-clause-others
+returns-clause-others g c = λ told q apart. record {
+  same = c.give_file.ensures.others told q apart;
+  losses = c.give_file.ensures.no_losses told q apart;
+}

@@ -102,5 +102,6 @@ returns-in_default g c =
       });
       home_after = rw kept (λ told. o.out told ∙ ap (λ x. Lent x.mark) (sym file));
       others = c.in-Ok.ensures.others;
+      losses = c.in-Ok.ensures.losses;
       numbers = (ap (λ (x : TraceState). x.event) noted ∙ ap (λ (k : outside.ProgramState). k.noted.event) c.self.view_is, ap (λ (x : TraceState). x.request) noted ∙ ap (λ (k : outside.ProgramState). k.noted.request) c.self.view_is);
     }
