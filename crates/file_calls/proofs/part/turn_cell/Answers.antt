@@ -1,0 +1,39 @@
+use Rattle.std.proofs.Common.{◌≡◌, ◌∙◌, Some, refl, ap, string_bytes}
+use Rattle.gw_model.specs.Views.{TraceState, next_event}
+use Rattle.file_calls.specs.Acts.{TurnFile}
+use Rattle.file_calls.specs.Part.{send_result}
+use Rattle.file_calls.specs.Outside.{PartState}
+use Rattle.file_calls.proofs.PartTurns.{turn_acts, begun_cut, all_text, sent_desk, sent_ok, sent_err}
+use Rattle.file_calls.proofs.part.turn_cell.Goals as goal
+
+pub returns-then-is_err-clause-err : goal.returns-then-is_err-clause-err
+returns-then-is_err-clause-err g c = λ s.
+    let old : PartState = record { opened = Some c.args.cell.now; desk = c.tracker.inside.desk; noted = c.tracker.inside.trace } in
+    let begun : c.reserve.new.self ≡ record (next_event c.tracker.inside.trace) { room = c.reserve.new.self.room }
+    = c.reserve.ensures.rest ∙ ap (λ (x : TraceState). let y : TraceState = record x { room = c.reserve.new.self.room } in y) c.begin_event.ensures in
+    rw (← c.tracker.view_is) (begun_cut g.F.AppendFile.tells TurnFile old s c.reserve.new.self begun)
+
+pub returns-clause-ok : goal.returns-clause-ok
+returns-clause-ok g c = λ s.
+    let old : PartState = record { opened = Some c.args.cell.now; desk = c.tracker.inside.desk; noted = c.tracker.inside.trace } in
+    let few = rw (← c.tracker.view_is) at c.requires.few in
+    let begun : c.reserve.new.self ≡ record (next_event c.tracker.inside.trace) { room = c.reserve.new.self.room }
+    = c.reserve.ensures.rest ∙ ap (λ (x : TraceState). let y : TraceState = record x { room = c.reserve.new.self.room } in y) c.begin_event.ensures in
+    let a = c.do_job-answer.result in
+    let left = c.do_job-answer.new.cell.left in
+    let step = turn_acts g.F.AppendFile.tells old c.args.cell.now c.do_job-answer.new.cell s c.reserve.new.self c.do_job-answer.new.trace a refl begun few c.do_job-answer.ensures.job in
+    rw (← c.tracker.view_is, c.send_left.ensures.none_left) (sent_ok string_bytes c.send_left.result g.F.AppendFile.tells TurnFile _ _ c.send_left.new.desk s _ step
+    (c.send_left.ensures.desk ∙ ap (λ x. (send_result x left).desk) c.send_first-text.ensures.desk ∙ sent_desk c.tracker.inside.desk a left)
+    (all_text string_bytes c.send_first-text.result c.send_left.result c.tracker.inside.desk c.send_first-text.new.desk a left c.send_first-text.ensures.desk c.send_first-text.ensures.text c.send_left.ensures.text c.send_left.ensures.err))
+
+pub returns-clause-err : goal.returns-clause-err
+returns-clause-err g c = λ s.
+    let old : PartState = record { opened = Some c.args.cell.now; desk = c.tracker.inside.desk; noted = c.tracker.inside.trace } in
+    let few = rw (← c.tracker.view_is) at c.requires.few in
+    let begun : c.reserve.new.self ≡ record (next_event c.tracker.inside.trace) { room = c.reserve.new.self.room }
+    = c.reserve.ensures.rest ∙ ap (λ (x : TraceState). let y : TraceState = record x { room = c.reserve.new.self.room } in y) c.begin_event.ensures in
+    let a = c.do_job-answer.result in
+    let left = c.do_job-answer.new.cell.left in
+    let step = turn_acts g.F.AppendFile.tells old c.args.cell.now c.do_job-answer.new.cell s c.reserve.new.self c.do_job-answer.new.trace a refl begun few c.do_job-answer.ensures.job in
+    rw (← c.tracker.view_is, c.send_left.ensures.none_left) (sent_err c.send_left.result g.F.AppendFile.tells TurnFile _ _ c.send_left.new.desk s _ step
+    (c.send_left.ensures.desk ∙ ap (λ x. (send_result x left).desk) c.send_first-text.ensures.desk ∙ sent_desk c.tracker.inside.desk a left))

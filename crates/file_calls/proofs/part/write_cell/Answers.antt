@@ -1,0 +1,26 @@
+use Rattle.std.proofs.Common.{Some, refl, arith, string_bytes}
+use Rattle.file_calls.specs.Outside.{part_state}
+use Rattle.file_calls.specs.Acts.{WriteFile}
+use Rattle.file_calls.proofs.PartRequests.{always_err, cut_room, step_ok, step_err, write_acts}
+use Rattle.file_calls.proofs.part.write_cell.Goals as goal
+
+pub returns-in_err-ticket-clause-err : goal.returns-in_err-ticket-clause-err
+returns-in_err-ticket-clause-err g c = λ s. always_err c.from_residual.result (cut_room g.F.AppendFile.tells (WriteFile c.args.conn c.args.call) _ _ s (c.in_err-ticket.ensures.err (Some c.args.cell.now)))
+
+pub send_verdict-requires-clause-room : goal.send_verdict-requires-clause-room
+send_verdict-requires-clause-room g c = let r = (c.in_ok-ticket.ensures.ok (Some c.args.cell.now)).room in omega (arith, r)
+
+pub returns-clause-ok : goal.returns-clause-ok
+returns-clause-ok g c = λ s.
+    let o = Some c.args.cell.now in
+    rw c.send_verdict.ensures.kept
+    (step_ok string_bytes c.send_verdict.result _ _ _ _ _
+    (write_acts g.F.AppendFile.tells c.args.conn 9 c.in_ok-ticket.ticket (part_state o c.args.tracker.now) (part_state o c.begin_request.new.self) s c.args.cell.now c.write-verdict.new.self c.write-verdict.result _ refl c.requires.limits c.args.call _ (c.in_ok-ticket.ensures.ok o) refl c.write-verdict.ensures.step c.write-verdict.ensures.stands)
+    c.send_verdict.ensures.text)
+
+pub returns-clause-err : goal.returns-clause-err
+returns-clause-err g c = λ s.
+    let o = Some c.args.cell.now in
+    rw c.send_verdict.ensures.kept
+    (step_err c.send_verdict.result _ _ _ _ _
+    (write_acts g.F.AppendFile.tells c.args.conn 9 c.in_ok-ticket.ticket (part_state o c.args.tracker.now) (part_state o c.begin_request.new.self) s c.args.cell.now c.write-verdict.new.self c.write-verdict.result _ refl c.requires.limits c.args.call _ (c.in_ok-ticket.ensures.ok o) refl c.write-verdict.ensures.step c.write-verdict.ensures.stands))

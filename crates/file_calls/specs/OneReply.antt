@@ -1,0 +1,31 @@
+-- What is written to connections, whatever a store tells: each line is what one call of the desk gave, so a request gets at
+-- most one reply.
+use Rattle.std.specs.Prelude.{◌≡◌, ◌⊎◌, ℕ, List, [], ◌∷◌, ◌++◌, Option, Some, None}
+use Rattle.tickets.specs.Desk.{TicketId, DeskState, waiting_ticket}
+use Rattle.tickets.specs.Laws.{DeskCall, Issue, Refused, Send, DropTicket, CancelConn, after_call, after_calls}
+use Rattle.file_calls.specs.Replies.{reply_line, closed_line}
+
+-- a line to the one who waits, if anybody does
+abbrev pub IsLineTo : Option TicketId → List ℕ → Type 0
+IsLineTo None line = line ≡ []
+IsLineTo (Some t) line = (reply : List ℕ) × (line ≡ reply_line t.conn reply)
+
+-- What is written for a call of a desk: for a reply its line, and for a connection that ends the line that says so, unless it
+-- hung up.
+abbrev pub IsDeskLine : DeskCall → DeskState → List ℕ → Type 0
+IsDeskLine (Send number) d line = IsLineTo (waiting_ticket number d) line
+IsDeskLine (CancelConn conn) d line = (line ≡ closed_line conn) ⊎ (line ≡ [])
+IsDeskLine (Issue conn xid) d line = line ≡ []
+IsDeskLine Refused d line = line ≡ []
+IsDeskLine (DropTicket number) d line = line ≡ []
+
+-- of calls, one after another
+abbrev pub AreDeskLines : List DeskCall → DeskState → List ℕ → Type 0
+AreDeskLines [] d text = text ≡ []
+AreDeskLines (call ∷ calls) d text = (line rest : List ℕ) × (text ≡ line ++ rest) × IsDeskLine call d line × AreDeskLines calls (after_call call d) rest
+
+-- Calls that led from one desk to another, with what was written for them.
+pub record Speaks (old new : DeskState) (text : List ℕ) : Type 0 where
+  pub calls : List DeskCall
+  pub desk : new ≡ after_calls calls old
+  pub lines : AreDeskLines calls old text

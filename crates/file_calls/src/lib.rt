@@ -1,0 +1,20 @@
+//! One file's part of the gateway: its context or its stored body, the tickets that wait, and what each act makes of them.
+#![tactic(auto)]
+
+mod answers;
+mod call;
+mod limits;
+mod opening;
+mod part;
+mod reply;
+#[cfg(test)]
+mod tests;
+mod tracker;
+
+pub use call::{ReadCall, WriteCall};
+pub use part::{
+    FirstWrite, StepResult, close_cell, create_body, first_write, idle_event, pump_cell, read_cell,
+    read_closed, refuse_write, step_result, turn_cell, write_cell,
+};
+pub use reply::body_reply;
+pub use tracker::RequestTracker;
