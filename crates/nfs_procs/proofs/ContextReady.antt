@@ -1,0 +1,48 @@
+-- Contexts are ready, one by one and all.
+use Rattle.std.proofs.Common.{◌≡◌, ℕ, Bool, true, false, cond, Option, Some, None, List, [], ◌∷◌, refl, sym, ◌∙◌, ap, subst}
+use Rattle.std.specs.declared.cmp.Ordering.{Ordering}
+use Rattle.std.specs.declared.cmp.Ordering.TheVariants.{Less, Equal, Greater}
+use Rattle.std.specs.Ordering.{nat_cmp, match_ordering}
+use Rattle.std.specs.BTreeMap.{insert_entry, is_at}
+use Rattle.std.specs.Map.{set_value}
+use Rattle.file_cell.specs.State.{CellState}
+use Rattle.file_calls.specs.PartSteps.{IsCellReady, SameSettings}
+use Rattle.nfs_procs.specs.World.{entry_at}
+use Rattle.nfs_procs.specs.Contexts.{AreCellsReady}
+use Rattle.nfs_procs.proofs.ContextMaps.{at_is, equal_is}
+
+abbrev cell_or : CellState → Option CellState → CellState
+cell_or c None = c
+cell_or c (Some d) = d
+
+ready_cond : (k : ℕ) (x : ℕ × CellState) (o : Option CellState) (c : CellState) (b : Bool) → is_at (nat_cmp k) x.0 ≡ b → IsCellReady x.0 x.1 → cond b (Some x.1) o ≡ Some c → (o ≡ Some c → IsCellReady k c) → IsCellReady k c
+ready_cond k x o c true is h e rest = subst (IsCellReady k) (ap (cell_or c) e) (h.0, h.1, h.2 ∙ sym (at_is k x.0 is))
+ready_cond k x o c false is h e rest = rest e
+
+pub ready_at : (k : ℕ) (es : List (ℕ × CellState)) (c : CellState) → AreCellsReady es → entry_at k es ≡ Some c → IsCellReady k c
+ready_at k [] c h e = absurd (cc e)
+ready_at k (x ∷ xs) c h e = ready_cond k x (entry_at k xs) c (is_at (nat_cmp k) x.0) refl (h.0, h.1, h.2) e (λ g. ready_at k xs c h.3 g)
+
+-- a context after a step
+pub ready_same : (k : ℕ) (c d : CellState) → IsCellReady k c → d.left ≡ [] → SameSettings c d → IsCellReady k d
+ready_same k c d h none same = (none, same.0 ∙ h.1, ap (λ i. i.0) same.1 ∙ h.2)
+
+pub ready_set : (k : ℕ) (es : List (ℕ × CellState)) (d : CellState) → AreCellsReady es → IsCellReady k d → AreCellsReady (set_value (is_at (nat_cmp k)) es d)
+ready_set k [] d h r = tt
+ready_set k (x ∷ xs) d h r = go (is_at (nat_cmp k) x.0) refl (ready_set k xs d h.3 r)
+  where
+    go : (b : Bool) → is_at (nat_cmp k) x.0 ≡ b → AreCellsReady (set_value (is_at (nat_cmp k)) xs d) → AreCellsReady (cond b ((x.0, d) ∷ xs) (x ∷ set_value (is_at (nat_cmp k)) xs d))
+    go true is rest = (r.0, r.1, r.2 ∙ at_is k x.0 is, h.3)
+    go false is rest = (h.0, h.1, h.2, rest)
+
+ready_insert : (k : ℕ) (es : List (ℕ × CellState)) (d : CellState) → AreCellsReady es → IsCellReady k d → AreCellsReady (insert_entry nat_cmp es k d)
+ready_insert k [] d h r = (r.0, r.1, r.2, tt)
+ready_insert k (x ∷ xs) d h r = go (nat_cmp k x.0) refl (ready_insert k xs d h.3 r)
+  where
+    go : (o : Ordering) → nat_cmp k x.0 ≡ o → AreCellsReady (insert_entry nat_cmp xs k d) → AreCellsReady (match_ordering o ((k, d) ∷ x ∷ xs) ((x.0, d) ∷ xs) (x ∷ insert_entry nat_cmp xs k d))
+    go Less is rest = (r.0, r.1, r.2, h)
+    go Equal is rest = (r.0, r.1, r.2 ∙ equal_is k x.0 is, h.3)
+    go Greater is rest = (h.0, h.1, h.2, rest)
+
+pub inserted_ready : (k : ℕ) (es es' : List (ℕ × CellState)) (d : CellState) → es' ≡ insert_entry nat_cmp es k d → AreCellsReady es → IsCellReady k d → AreCellsReady es'
+inserted_ready k es es' d is h r = subst AreCellsReady (sym is) (ready_insert k es d h r)

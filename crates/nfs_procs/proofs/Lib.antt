@@ -1,0 +1,14 @@
+pub mod ContextBodies
+pub mod ContextClosing
+pub mod ContextCounts
+pub mod ContextMaps
+pub mod ContextNames
+pub mod ContextParts
+pub mod ContextReady
+pub mod ContextSteps
+pub mod ContextTargets
+pub mod MessageAsked
+pub mod MessageHandles
+pub mod MessageRows
+pub mod WorldOperations
+pub mod ContextStores

@@ -1,0 +1,183 @@
+-- The sequential definition of the gateway over many files. Each operation is of one file's part of the world, or of the desk.
+use Rattle.std.specs.Prelude.{ℕ, ◌+◌, ◌==◌, ◌||◌, if◌then◌else◌, nat_lt, Bool, true, false, cond, List, [], ◌∷◌, ◌++◌, length, Option, Some, None, is_some}
+use Rattle.std.specs.Ordering.{nat_cmp}
+use Rattle.std.specs.Cmp.Lexicographic.{slice_cmp}
+use Rattle.std.specs.BTreeMap.{insert_entry, is_at}
+use Rattle.std.specs.Map.{lookup, set_value}
+use Rattle.gw_model.specs.Ahead.{Outcomes}
+use Rattle.gw_model.specs.File.{File, NotWritten}
+use Rattle.gw_model.specs.Statuses.{jukebox}
+use Rattle.gw_model.specs.Ending.{Ended, history_of}
+use Rattle.tickets.specs.Desk.{DeskState, new_desk}
+use Rattle.file_cell.specs.History.{history_text}
+use Rattle.file_calls.specs.Acts.{Act, CreateFile, BeginEvent, WriteFile, CloseConnection, TurnFile, PumpFile}
+use Rattle.file_calls.specs.Acts as act
+use Rattle.file_calls.specs.Part.{Part, PartResult, next_part, part_body}
+use Rattle.nfs_procs.specs.Targets.{Target, OnFile, OnDesk, OnNothing, reply_target, message_target}
+
+-- what events ask for
+pub data Operation : Type 0 where
+  -- a file of this name is made in the root
+  CreateNamed : (name : List ℕ) → Operation
+  -- an event begins in which a connection is heard
+  StartEvent : Operation
+  -- a whole message of a connection
+  Serve : (conn : ℕ) (message : List ℕ) → Operation
+  -- a connection ends, for what its bytes are
+  Break : (conn : ℕ) → Operation
+  -- an event: a connection is hung up
+  HangUp : (conn : ℕ) → Operation
+  -- an event: the writer of a file does the first job
+  TurnOf : (file : ℕ) → Operation
+  -- an event: the admission side of a file hears of its writer and sends what is ready
+  PumpOf : (file : ℕ) → Operation
+
+pub record World : Type 0 where
+  -- the names in the root with the numbers of their files, by rising name
+  pub names : List (List ℕ × ℕ)
+  -- what each body holds while its file has no context
+  pub bodies : ℕ → List ℕ
+  -- the contexts, by rising number of their files
+  pub opens : List (ℕ × File)
+  -- the tickets issued, and those that wait for an answer
+  pub desk : DeskState
+
+abbrev pub world_at_start : (ℕ → List ℕ) → World
+world_at_start bodies = record { names = []; bodies = bodies; opens = []; desk = new_desk }
+
+-- contexts
+
+module _ {V : Type 0} where
+  abbrev pub entry_at : ℕ → List (ℕ × V) → Option V
+  entry_at k es = lookup (is_at (nat_cmp k)) es
+
+  -- without a number's entries
+  abbrev pub without_entry : ℕ → List (ℕ × V) → List (ℕ × V)
+  without_entry k [] = []
+  without_entry k (e ∷ es) = cond (is_at (nat_cmp k) e.0) (without_entry k es) (e ∷ without_entry k es)
+
+  -- by what was there and what is to be there
+  abbrev pub put_by : Option V → Option V → ℕ → List (ℕ × V) → List (ℕ × V)
+  put_by None None k es = es
+  put_by None (Some v) k es = insert_entry nat_cmp es k v
+  put_by (Some u) (Some v) k es = set_value (is_at (nat_cmp k)) es v
+  put_by (Some u) None k es = without_entry k es
+
+  abbrev pub put_at : ℕ → Option V → List (ℕ × V) → List (ℕ × V)
+  put_at k o es = put_by (entry_at k es) o k es
+
+  -- a file has a context, or one more may be opened
+  abbrev pub may_open : ℕ → List (ℕ × V) → Bool
+  may_open k es = is_some (entry_at k es) || nat_lt (length es) 128
+
+  -- A WRITE of a file without a context is refused where contexts stand at their number (RFC 1813 section 3.3.7).
+  abbrev pub opening_target : List (ℕ × V) → Target → Target
+  opening_target es (OnFile k (WriteFile conn call)) = if may_open k es then OnFile k (WriteFile conn call) else reply_target conn call.xid (NotWritten jukebox)
+  opening_target es target = target
+
+-- one file's part of the world, and the desk alone
+
+abbrev pub with_body : ℕ → List ℕ → (ℕ → List ℕ) → ℕ → List ℕ
+with_body k body bodies j = if j == k then body else bodies j
+
+abbrev pub part_of_file : ℕ → World → Part
+part_of_file k w = record { body = w.bodies k; opened = entry_at k w.opens; desk = w.desk }
+
+abbrev pub with_part : ℕ → Part → World → World
+with_part k p w = record w { bodies = with_body k p.body w.bodies; opens = put_at k p.opened w.opens; desk = p.desk }
+
+abbrev pub desk_part : World → Part
+desk_part w = record { body = []; opened = None; desk = w.desk }
+
+-- what each body holds
+abbrev pub world_bodies : World → ℕ → List ℕ
+world_bodies w k = part_body (part_of_file k w)
+
+-- an operation
+
+-- the names after it: one that is there changes nothing
+abbrev pub has_name : List ℕ → List (List ℕ × ℕ) → Bool
+has_name name names = is_some (lookup (is_at (slice_cmp nat_cmp name)) names)
+
+-- files are numbered from 4 on
+abbrev pub next_file : List (List ℕ × ℕ) → ℕ
+next_file names = 4 + length names
+
+abbrev pub names_after : Operation → List (List ℕ × ℕ) → List (List ℕ × ℕ)
+names_after (CreateNamed name) names = if has_name name names then names else insert_entry (slice_cmp nat_cmp) names name (next_file names)
+names_after _ names = names
+
+abbrev pub creation_target : List ℕ → List (List ℕ × ℕ) → Target
+creation_target name names = if has_name name names then OnNothing else OnFile (next_file names) CreateFile
+
+-- what it is of, by the names and the contexts as they are then
+abbrev pub target_by_state : {V : Type 0} → List (List ℕ × ℕ) → List (ℕ × V) → Operation → Target
+target_by_state names opens (CreateNamed name) = creation_target name names
+target_by_state names opens StartEvent = OnDesk BeginEvent
+target_by_state names opens (Serve conn message) = opening_target opens (message_target (length names) conn message)
+target_by_state names opens (Break conn) = OnDesk (CloseConnection conn)
+target_by_state names opens (HangUp conn) = OnDesk (act.HangUp conn)
+target_by_state names opens (TurnOf file) = OnFile file TurnFile
+target_by_state names opens (PumpOf file) = OnFile file PumpFile
+
+abbrev pub target_in : World → Operation → Target
+target_in w operation = target_by_state w.names w.opens operation
+
+-- what an operation leaves, the text that it writes, whether it ends the run, and the outcomes that are left
+pub record WorldResult : Type 0 where
+  pub world : World
+  pub text : List ℕ
+  pub stopped : Bool
+  pub ahead : Outcomes
+
+abbrev pub world_result : World → PartResult → WorldResult
+world_result w s = record { world = w; text = s.text; stopped = s.stopped; ahead = s.ahead }
+
+abbrev pub target_result : Target → World → Outcomes → WorldResult
+target_result (OnFile k act) w t = let s = next_part (part_of_file k w) act t in world_result (with_part k s.part w) s
+target_result (OnDesk act) w t = let s = next_part (desk_part w) act t in world_result (record w { desk = s.part.desk }) s
+target_result OnNothing w t = record { world = w; text = []; stopped = false; ahead = t }
+
+abbrev pub with_names : List (List ℕ × ℕ) → WorldResult → WorldResult
+with_names names s = record s { world = record s.world { names = names } }
+
+unfoldable pub next : World → Operation → Outcomes → WorldResult
+next w operation t = with_names (names_after operation w.names) (target_result (target_in w operation) w t)
+
+-- operations
+
+abbrev pub result_then : Bool → WorldResult → WorldResult → WorldResult
+result_then true s later = s
+result_then false s later = record later { text = s.text ++ later.text }
+
+-- the fold of `next`, up to where a failed call ends it
+abbrev pub operations_result : World → List Operation → Outcomes → WorldResult
+operations_result w [] t = record { world = w; text = []; stopped = false; ahead = t }
+operations_result w (operation ∷ operations) t =
+    let s = next w operation t in result_then s.stopped s (operations_result s.world operations s.ahead)
+
+-- a whole run
+
+-- all that comes of operations: the text, what each body then holds, whether a failed call ended the run, and the outcomes
+-- that are left
+pub record RunOutput : Type 0 where
+  pub text : List ℕ
+  pub bodies : ℕ → List ℕ
+  pub stopped : Bool
+  pub ahead : Outcomes
+
+-- the histories of the contexts, by rising number
+abbrev pub end_texts : List (ℕ × File) → List ℕ
+end_texts [] = []
+end_texts (e ∷ es) = history_text e.0 (history_of e.1 Ended) ++ end_texts es
+
+-- a run that no failed call ended writes them
+abbrev pub end_text : Bool → World → List ℕ
+end_text true w = []
+end_text false w = end_texts w.opens
+
+abbrev pub output_of : WorldResult → RunOutput
+output_of s = record { text = s.text ++ end_text s.stopped s.world; bodies = world_bodies s.world; stopped = s.stopped; ahead = s.ahead }
+
+abbrev pub run_output : World → List Operation → Outcomes → RunOutput
+run_output w operations t = output_of (operations_result w operations t)
