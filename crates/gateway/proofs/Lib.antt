@@ -1,0 +1,4 @@
+pub mod GatewayEvents
+pub mod GatewayPieces
+pub mod LinkMap
+pub mod StreamRecords

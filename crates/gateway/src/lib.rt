@@ -1,0 +1,11 @@
+//! Connections and events: each event does the operations that it asks for.
+#![tactic(auto)]
+
+mod event;
+mod gateway;
+mod link;
+mod stream;
+
+pub use event::{Event, Piece};
+pub use gateway::Gateway;
+pub use link::Link;
