@@ -1,8 +1,9 @@
-use crate::run::run_command;
-use crate::status::{Status, status_text};
+use crate::command::run_command;
+use crate::exit_codes::status_text;
 use append_store::{Cluster, MemCluster, Planned};
 use gw_model::ObjectId;
 use gw_outside::{MemSink, MemSource};
+use replay::Status;
 use std::alloc::{AllocError, Global};
 use std::test::Fail;
 
@@ -159,29 +160,6 @@ fn two_writes_in_reverse_order(rt: HostRuntime) -> Result<(), Fail> {
 }
 
 #[test]
-fn a_straddling_write_keeps_its_tail(rt: HostRuntime) -> Result<(), Fail> {
-    let outcome = run(
-        rt.alloc(),
-        &PLAIN,
-        &[
-            "file data\n",
-            "bytes 1 8000006c000000010000000000000002000186a3000000030000000700000000000000000000000000000000000000200000000000000004000000000000000121e0f2975a84e78cec58787af28bde1400000000000000000000000a000000000000000a6162636465666768696a0000\n",
-            "turn 4\n",
-            "bytes 1 8000006c000000020000000000000002000186a3000000030000000700000000000000000000000000000000000000200000000000000004000000000000000121e0f2975a84e78cec58787af28bde1400000000000000050000000a000000000000000a666768696a6b6c6d6e6f0000\n",
-            "turn 4\n",
-            "end\n",
-        ],
-    )?;
-    assert_eq!(rt; outcome.status, Status::Done);
-    assert_eq!(rt;
-        outcome.written.as_slice(),
-        b"reply 1 800000340000000100000001000000000000000000000000000000000000000000000000000000000000000a000000000000000000000001\nreply 1 800000340000000200000001000000000000000000000000000000000000000000000000000000000000000a000000000000000000000001\ncontext 4 from 0\nwrite 1 0 10 put -\nwrite 2 10 5 put -\nended 4 end reach 15 stored 15 synced 0\n".as_slice()
-    );
-    assert_eq!(rt; outcome.content.as_slice(), b"abcdefghijklmno".as_slice());
-    Ok(())
-}
-
-#[test]
 fn equal_and_unequal_overwrite(rt: HostRuntime) -> Result<(), Fail> {
     let outcome = run(
         rt.alloc(),
@@ -203,74 +181,6 @@ fn equal_and_unequal_overwrite(rt: HostRuntime) -> Result<(), Fail> {
         b"reply 1 8000003400000001000000010000000000000000000000000000000000000000000000000000000000000008000000000000000000000001\nreply 1 8000003400000002000000010000000000000000000000000000000000000000000000000000000000000003000000000000000000000001\nreply 1 80000024000000030000000100000000000000000000000000000000000000160000000000000000\ncontext 4 from 0\nwrite 1 0 8 put -\nended 4 end reach 8 stored 8 synced 0\n".as_slice()
     );
     assert_eq!(rt; outcome.content.as_slice(), b"abcdefgh".as_slice());
-    Ok(())
-}
-
-#[test]
-fn null_call(rt: HostRuntime) -> Result<(), Fail> {
-    let outcome = run(
-        rt.alloc(),
-        &PLAIN,
-        &[
-            "bytes 1 80000028000000010000000000000002000186a3000000030000000000000000000000000000000000000000\n",
-            "end\n",
-        ],
-    )?;
-    assert_eq!(rt; outcome.status, Status::Done);
-    assert_eq!(rt;
-        outcome.written.as_slice(),
-        b"reply 1 80000018000000010000000100000000000000000000000000000000\n".as_slice()
-    );
-    assert_eq!(rt; outcome.content.as_slice(), b"".as_slice());
-    Ok(())
-}
-
-// A call in three fragments, of which the first header comes in two pieces; then, on another connection, 65 empty fragments.
-#[test]
-fn call_in_three_fragments_then_too_many(rt: HostRuntime) -> Result<(), Fail> {
-    let outcome = run(
-        rt.alloc(),
-        &PLAIN,
-        &[
-            "bytes 1 00\n",
-            "bytes 1 00000400000001\n",
-            "bytes 1 000000140000000000000002000186a30000000300000000\n",
-            "bytes 1 8000001000000000000000000000000000000000\n",
-            "bytes 2 0000000000000000000000000000000000000000000000000000000000000000000000000000000000000000000000000000000000000000000000000000000000000000000000000000000000000000000000000000000000000000000000000000000000000000000000000000000000000000000000000000000000000000000000000000000000000000000000000000000000000000000000000000000000000000000000000000000000000000000000000000000000000000000000000000000000000000000000000000000000000000000000000000000000000000000000000000000000000000000000000000000000000000000000000000000000000000\n",
-            "bytes 1 80000028000000010000000000000002000186a3000000030000000000000000000000000000000000000000\n",
-            "end\n",
-        ],
-    )?;
-    assert_eq!(rt; outcome.status, Status::Done);
-    assert_eq!(rt;
-        outcome.written.as_slice(),
-        b"reply 1 80000018000000010000000100000000000000000000000000000000\nclosed 2\nreply 1 80000018000000010000000100000000000000000000000000000000\n".as_slice()
-    );
-    assert_eq!(rt; outcome.content.as_slice(), b"".as_slice());
-    Ok(())
-}
-
-// Another RPC version, another program, another version of it, another procedure, and bytes behind the arguments.
-#[test]
-fn rpc_refusals(rt: HostRuntime) -> Result<(), Fail> {
-    let outcome = run(
-        rt.alloc(),
-        &PLAIN,
-        &[
-            "bytes 1 80000028000000010000000000000003000186a3000000030000000000000000000000000000000000000000\n",
-            "bytes 1 80000028000000020000000000000002000186a4000000030000000000000000000000000000000000000000\n",
-            "bytes 1 80000028000000030000000000000002000186a3000000020000000000000000000000000000000000000000\n",
-            "bytes 1 80000028000000040000000000000002000186a3000000030000001600000000000000000000000000000000\n",
-            "bytes 1 80000068000000050000000000000002000186a3000000030000000700000000000000000000000000000000000000200000000000000004000000000000000121e0f2975a84e78cec58787af28bde1400000000000000000000000100000000000000016100000000000000\n",
-            "end\n",
-        ],
-    )?;
-    assert_eq!(rt; outcome.status, Status::Done);
-    assert_eq!(rt;
-        outcome.written.as_slice(),
-        b"reply 1 80000018000000010000000100000001000000000000000200000002\nreply 1 80000018000000020000000100000000000000000000000000000001\nreply 1 800000200000000300000001000000000000000000000000000000020000000300000003\nreply 1 80000018000000040000000100000000000000000000000000000003\nreply 1 80000018000000050000000100000000000000000000000000000004\n".as_slice()
-    );
-    assert_eq!(rt; outcome.content.as_slice(), b"".as_slice());
     Ok(())
 }
 
@@ -300,76 +210,6 @@ fn hostile_messages(rt: HostRuntime) -> Result<(), Fail> {
     Ok(())
 }
 
-// A handle with another digest, and the handle of the file, which is not there: NFS3ERR_BADHANDLE and NFS3ERR_STALE come before
-// the count, which is wrong in both.
-#[test]
-fn writes_without_the_file(rt: HostRuntime) -> Result<(), Fail> {
-    let outcome = run(
-        rt.alloc(),
-        &PLAIN,
-        &[
-            "bytes 1 80000068000000010000000000000002000186a3000000030000000700000000000000000000000000000000000000200000000000000004000000000000000121e0f2975a84e78cec58787af28bde1500000000000000000000000400000000000000056162636465000000\n",
-            "bytes 1 80000068000000020000000000000002000186a3000000030000000700000000000000000000000000000000000000200000000000000004000000000000000121e0f2975a84e78cec58787af28bde1400000000000000000000000400000000000000056162636465000000\n",
-            "end\n",
-        ],
-    )?;
-    assert_eq!(rt; outcome.status, Status::Done);
-    assert_eq!(rt;
-        outcome.written.as_slice(),
-        b"reply 1 80000024000000010000000100000000000000000000000000000000000027110000000000000000\nreply 1 80000024000000020000000100000000000000000000000000000000000000460000000000000000\n".as_slice()
-    );
-    assert_eq!(rt; outcome.content.as_slice(), b"".as_slice());
-    Ok(())
-}
-
-// A handle with another digest, a count of 4 for five bytes whose end is at 2^63, five bytes that end there, and no bytes.
-#[test]
-fn writes_answered_at_once(rt: HostRuntime) -> Result<(), Fail> {
-    let outcome = run(
-        rt.alloc(),
-        &PLAIN,
-        &[
-            "file data\n",
-            "bytes 1 80000068000000010000000000000002000186a3000000030000000700000000000000000000000000000000000000200000000000000004000000000000000121e0f2975a84e78cec58787af28bde1500000000000000000000000400000000000000056162636465000000\n",
-            "bytes 1 80000068000000020000000000000002000186a3000000030000000700000000000000000000000000000000000000200000000000000004000000000000000121e0f2975a84e78cec58787af28bde147ffffffffffffffb0000000400000000000000056162636465000000\n",
-            "bytes 1 80000068000000030000000000000002000186a3000000030000000700000000000000000000000000000000000000200000000000000004000000000000000121e0f2975a84e78cec58787af28bde147ffffffffffffffb0000000500000000000000056162636465000000\n",
-            "bytes 1 80000060000000040000000000000002000186a3000000030000000700000000000000000000000000000000000000200000000000000004000000000000000121e0f2975a84e78cec58787af28bde140000000000000000000000000000000000000000\n",
-            "end\n",
-        ],
-    )?;
-    assert_eq!(rt; outcome.status, Status::Done);
-    assert_eq!(rt;
-        outcome.written.as_slice(),
-        b"reply 1 80000024000000010000000100000000000000000000000000000000000027110000000000000000\nreply 1 80000024000000020000000100000000000000000000000000000000000000160000000000000000\nreply 1 800000240000000300000001000000000000000000000000000000000000001b0000000000000000\nreply 1 8000003400000004000000010000000000000000000000000000000000000000000000000000000000000000000000000000000000000001\n".as_slice()
-    );
-    assert_eq!(rt; outcome.content.as_slice(), b"".as_slice());
-    Ok(())
-}
-
-// Both calls have the xid 7, and both are answered at turns.
-#[test]
-fn replies_go_to_the_connection_that_asked(rt: HostRuntime) -> Result<(), Fail> {
-    let outcome = run(
-        rt.alloc(),
-        &PLAIN,
-        &[
-            "file data\n",
-            "bytes 2 80000068000000070000000000000002000186a3000000030000000700000000000000000000000000000000000000200000000000000004000000000000000121e0f2975a84e78cec58787af28bde1400000000000000000000000500000000000000056162636465000000\n",
-            "bytes 1 80000064000000070000000000000002000186a3000000030000000700000000000000000000000000000000000000200000000000000004000000000000000121e0f2975a84e78cec58787af28bde14000000000000000500000003000000000000000366676800\n",
-            "turn 4\n",
-            "turn 4\n",
-            "end\n",
-        ],
-    )?;
-    assert_eq!(rt; outcome.status, Status::Done);
-    assert_eq!(rt;
-        outcome.written.as_slice(),
-        b"reply 2 8000003400000007000000010000000000000000000000000000000000000000000000000000000000000005000000000000000000000001\nreply 1 8000003400000007000000010000000000000000000000000000000000000000000000000000000000000003000000000000000000000001\ncontext 4 from 0\nwrite 1 0 5 put -\nwrite 2 5 3 put -\nended 4 end reach 8 stored 8 synced 0\n".as_slice()
-    );
-    assert_eq!(rt; outcome.content.as_slice(), b"abcdefgh".as_slice());
-    Ok(())
-}
-
 // Connection 2 ends while its WRITE is held: what it sends then is passed over, and the WRITE is done without a reply.
 #[test]
 fn nothing_of_a_closed_connection_is_answered(rt: HostRuntime) -> Result<(), Fail> {
@@ -391,45 +231,6 @@ fn nothing_of_a_closed_connection_is_answered(rt: HostRuntime) -> Result<(), Fai
         outcome.written.as_slice(),
         b"closed 2\nreply 1 80000018000000030000000100000000000000000000000000000000\ncontext 4 from 0\nwrite 1 0 5 put -\nended 4 end reach 5 stored 5 synced 0\n".as_slice()
     );
-    assert_eq!(rt; outcome.content.as_slice(), b"abcde".as_slice());
-    Ok(())
-}
-
-// The call behind it in its piece is not served.
-#[test]
-fn a_reply_ends_its_connection(rt: HostRuntime) -> Result<(), Fail> {
-    let outcome = run(
-        rt.alloc(),
-        &PLAIN,
-        &[
-            "bytes 1 80000008000000090000000180000028000000020000000000000002000186a3000000030000000000000000000000000000000000000000\n",
-            "end\n",
-        ],
-    )?;
-    assert_eq!(rt; outcome.status, Status::Done);
-    assert_eq!(rt; outcome.written.as_slice(), b"closed 1\n".as_slice());
-    assert_eq!(rt; outcome.content.as_slice(), b"".as_slice());
-    Ok(())
-}
-
-// The first WRITE with its record in pieces of one byte.
-fn byte_by_byte(alloc: Global) -> Result<Vec<u8>, AllocError> {
-    let mut transcript = Vec::from_slice(alloc, FILE.as_bytes())?;
-    for byte in FIRST.as_bytes()[8..FIRST.len() - 1].chunks(2) {
-        transcript.extend_from_slice(b"bytes 1 ")?;
-        transcript.extend_from_slice(byte)?;
-        transcript.push(b'\n')?;
-    }
-    transcript.extend_from_slice(b"turn 4\nend\n")?;
-    Ok(transcript)
-}
-
-#[test]
-fn a_write_byte_by_byte(rt: HostRuntime) -> Result<(), Fail> {
-    let alloc = rt.alloc();
-    let outcome = command_on(alloc, &["replay"], &PLAIN, byte_by_byte(alloc)?)?;
-    assert_eq!(rt; outcome.status, Status::Done);
-    assert_eq!(rt; outcome.written.as_slice(), REPLY);
     assert_eq!(rt; outcome.content.as_slice(), b"abcde".as_slice());
     Ok(())
 }
@@ -491,21 +292,6 @@ fn a_run_makes_these_calls_and_no_other(rt: HostRuntime) -> Result<(), Fail> {
     Ok(())
 }
 
-#[test]
-fn a_body_that_is_not_given_fails_the_write(rt: HostRuntime) -> Result<(), Fail> {
-    let case = Case {
-        failing_call: 2,
-        ..PLAIN
-    };
-    let outcome = run(rt.alloc(), &case, &[FILE, FIRST, "turn 4\n", "end\n"])?;
-    assert_eq!(rt; outcome.status, Status::Done);
-    assert_eq!(rt;
-        outcome.written.as_slice(),
-        b"reply 1 80000024000000010000000100000000000000000000000000000000000000050000000000000000\n".as_slice()
-    );
-    Ok(())
-}
-
 // The ninth write finds no slot, and is sent at the pump. The ninth turn finds no job.
 #[test]
 fn nine_writes_through_eight_slots(rt: HostRuntime) -> Result<(), Fail> {
@@ -543,88 +329,6 @@ fn nine_writes_through_eight_slots(rt: HostRuntime) -> Result<(), Fail> {
         b"reply 1 8000003400000001000000010000000000000000000000000000000000000000000000000000000000000001000000000000000000000001\nreply 1 8000003400000002000000010000000000000000000000000000000000000000000000000000000000000001000000000000000000000001\nreply 1 8000003400000003000000010000000000000000000000000000000000000000000000000000000000000001000000000000000000000001\nreply 1 8000003400000004000000010000000000000000000000000000000000000000000000000000000000000001000000000000000000000001\nreply 1 8000003400000005000000010000000000000000000000000000000000000000000000000000000000000001000000000000000000000001\nreply 1 8000003400000006000000010000000000000000000000000000000000000000000000000000000000000001000000000000000000000001\nreply 1 8000003400000007000000010000000000000000000000000000000000000000000000000000000000000001000000000000000000000001\nreply 1 8000003400000008000000010000000000000000000000000000000000000000000000000000000000000001000000000000000000000001\nreply 1 8000003400000009000000010000000000000000000000000000000000000000000000000000000000000001000000000000000000000001\ncontext 4 from 0\nwrite 1 0 1 put -\nwrite 2 1 1 put -\nwrite 3 2 1 put -\nwrite 4 3 1 put -\nwrite 5 4 1 put -\nwrite 6 5 1 put -\nwrite 7 6 1 put -\nwrite 8 7 1 put -\nwrite 9 8 1 put -\nended 4 end reach 9 stored 9 synced 0\n".as_slice()
     );
     assert_eq!(rt; outcome.content.as_slice(), b"aaaaaaaaa".as_slice());
-    Ok(())
-}
-
-// Of the second write the bytes behind those of the first are put.
-#[test]
-fn overlapping_pending_writes(rt: HostRuntime) -> Result<(), Fail> {
-    let outcome = run(
-        rt.alloc(),
-        &PLAIN,
-        &[
-            "file data\n",
-            "bytes 1 8000006c000000010000000000000002000186a3000000030000000700000000000000000000000000000000000000200000000000000004000000000000000121e0f2975a84e78cec58787af28bde14000000000000000a0000000a000000000000000a616161616161616161610000\n",
-            "bytes 1 80000074000000020000000000000002000186a3000000030000000700000000000000000000000000000000000000200000000000000004000000000000000121e0f2975a84e78cec58787af28bde14000000000000000a0000001400000000000000146262626262626262626262626262626262626262\n",
-            "bytes 1 8000006c000000030000000000000002000186a3000000030000000700000000000000000000000000000000000000200000000000000004000000000000000121e0f2975a84e78cec58787af28bde1400000000000000000000000a000000000000000a636363636363636363630000\n",
-            "turn 4\n",
-            "turn 4\n",
-            "turn 4\n",
-            "bytes 1 80000058000000040000000000000002000186a3000000030000000600000000000000000000000000000000000000200000000000000004000000000000000121e0f2975a84e78cec58787af28bde14000000000000000000000064\n",
-            "turn 4\n",
-            "end\n",
-        ],
-    )?;
-    assert_eq!(rt; outcome.status, Status::Done);
-    assert_eq!(rt;
-        outcome.written.as_slice(),
-        b"reply 1 800000340000000100000001000000000000000000000000000000000000000000000000000000000000000a000000000000000000000001\nreply 1 8000003400000002000000010000000000000000000000000000000000000000000000000000000000000014000000000000000000000001\nreply 1 800000340000000300000001000000000000000000000000000000000000000000000000000000000000000a000000000000000000000001\nreply 1 8000004c00000004000000010000000000000000000000000000000000000000000000000000001e000000010000001e6363636363636363636361616161616161616161626262626262626262620000\ncontext 4 from 0\nwrite 1 10 10 put -\nwrite 2 10 20 put -\nwrite 3 0 10 put -\nended 4 end reach 30 stored 30 synced 0\n".as_slice()
-    );
-    assert_eq!(rt;
-        outcome.content.as_slice(),
-        b"ccccccccccaaaaaaaaaabbbbbbbbbb".as_slice()
-    );
-    Ok(())
-}
-
-// Nothing is there, and no context is opened.
-#[test]
-fn a_read_of_the_closed_file(rt: HostRuntime) -> Result<(), Fail> {
-    let outcome = run(rt.alloc(), &PLAIN, &[FILE, READ, "end\n"])?;
-    assert_eq!(rt; outcome.status, Status::Done);
-    assert_eq!(rt;
-        outcome.written.as_slice(),
-        b"reply 1 8000002c0000000100000001000000000000000000000000000000000000000000000000000000000000000100000000\n".as_slice()
-    );
-    assert_eq!(rt; outcome.content.as_slice(), b"".as_slice());
-    Ok(())
-}
-
-#[test]
-fn a_read_of_the_closed_file_that_fails(rt: HostRuntime) -> Result<(), Fail> {
-    let case = Case {
-        failing_call: 2,
-        ..PLAIN
-    };
-    let outcome = run(rt.alloc(), &case, &[FILE, READ, "end\n"])?;
-    assert_eq!(rt; outcome.status, Status::Done);
-    assert_eq!(rt;
-        outcome.written.as_slice(),
-        b"reply 1 800000200000000100000001000000000000000000000000000000000000000500000000\n".as_slice()
-    );
-    assert_eq!(rt; outcome.content.as_slice(), b"".as_slice());
-    Ok(())
-}
-
-// The pump tells the file of the failed append: from then on a WRITE is refused at once, with the status 5.
-#[test]
-fn a_failed_append_turns_the_file_stale(rt: HostRuntime) -> Result<(), Fail> {
-    let case = Case {
-        failing_call: 3,
-        kept: 3,
-        ..PLAIN
-    };
-    let outcome = run(
-        rt.alloc(),
-        &case,
-        &[FILE, FIRST, "turn 4\n", "pump 4\n", THIRD, "end\n"],
-    )?;
-    assert_eq!(rt; outcome.status, Status::Done);
-    assert_eq!(rt;
-        outcome.written.as_slice(),
-        b"reply 1 80000024000000010000000100000000000000000000000000000000000000050000000000000000\nreply 1 80000024000000030000000100000000000000000000000000000000000000050000000000000000\ncontext 4 from 0\nwrite 1 0 5 lost -\nended 4 end reach 5 stored 3 synced 0\n".as_slice()
-    );
-    assert_eq!(rt; outcome.content.as_slice(), b"abc".as_slice());
     Ok(())
 }
 
@@ -723,5 +427,62 @@ fn the_first_bad_line_is_named(rt: HostRuntime) -> Result<(), Fail> {
         text.as_slice(),
         b"nfsgw: line 12: not a transcript line".as_slice()
     );
+    Ok(())
+}
+
+// Each file has its own writer. A name that is there makes no other file, and a turn of a file that isn't there does nothing.
+#[test]
+fn two_files_take_turns(rt: HostRuntime) -> Result<(), Fail> {
+    let outcome = run(
+        rt.alloc(),
+        &PLAIN,
+        &[
+            "file a\n",
+            "file b\n",
+            "file a\n",
+            "bytes 1 80000068000000010000000000000002000186a3000000030000000700000000000000000000000000000000000000200000000000000004000000000000000121e0f2975a84e78cec58787af28bde1400000000000000000000000500000000000000056162636465000000\n",
+            "bytes 2 80000064000000010000000000000002000186a3000000030000000700000000000000000000000000000000000000200000000000000005000000000000000128837355a8ccf13bb157234f031c76e1000000000000000000000003000000000000000378797a00\n",
+            "turn 5\n",
+            "pump 4\n",
+            "turn 4\n",
+            "bytes 2 80000058000000020000000000000002000186a3000000030000000600000000000000000000000000000000000000200000000000000005000000000000000128837355a8ccf13bb157234f031c76e1000000000000000100000009\n",
+            "turn 6\n",
+            "turn 5\n",
+            "end\n",
+        ],
+    )?;
+    assert_eq!(rt; outcome.status, Status::Done);
+    assert_eq!(rt;
+        outcome.written.as_slice(),
+        b"reply 2 8000003400000001000000010000000000000000000000000000000000000000000000000000000000000003000000000000000000000001\nreply 1 8000003400000001000000010000000000000000000000000000000000000000000000000000000000000005000000000000000000000001\nreply 2 800000300000000200000001000000000000000000000000000000000000000000000000000000020000000100000002797a0000\ncontext 4 from 0\nwrite 1 0 5 put -\nended 4 end reach 5 stored 5 synced 0\ncontext 5 from 0\nwrite 1 0 3 put -\nended 5 end reach 3 stored 3 synced 0\n".as_slice()
+    );
+    assert_eq!(rt; outcome.content.as_slice(), b"abcde".as_slice());
+    Ok(())
+}
+
+// The WRITE that was held is done without a reply, and the connection has no later lines.
+#[test]
+fn a_hangup_cancels_a_held_reply(rt: HostRuntime) -> Result<(), Fail> {
+    let outcome = run(
+        rt.alloc(),
+        &PLAIN,
+        &[
+            "file data\n",
+            "bytes 1 80000068000000010000000000000002000186a3000000030000000700000000000000000000000000000000000000200000000000000004000000000000000121e0f2975a84e78cec58787af28bde1400000000000000000000000500000000000000056162636465000000\n",
+            "hangup 1\n",
+            "hangup 7\n",
+            "bytes 2 80000068000000020000000000000002000186a3000000030000000700000000000000000000000000000000000000200000000000000004000000000000000121e0f2975a84e78cec58787af28bde1400000000000000000000000500000000000000056162636465000000\n",
+            "turn 4\n",
+            "turn 4\n",
+            "bytes 1 80000068000000030000000000000002000186a3000000030000000700000000000000000000000000000000000000200000000000000004000000000000000121e0f2975a84e78cec58787af28bde1400000000000000000000000500000000000000056162636465000000\n",
+            "end\n",
+        ],
+    )?;
+    assert_eq!(rt; outcome.status, Status::BadLine(8));
+    assert_eq!(rt;
+        outcome.written.as_slice(),
+        b"reply 2 8000003400000002000000010000000000000000000000000000000000000000000000000000000000000005000000000000000000000001\ncontext 4 from 0\nwrite 1 0 5 put -\nended 4 end reach 5 stored 5 synced 0\n".as_slice()
+    );
+    assert_eq!(rt; outcome.content.as_slice(), b"abcde".as_slice());
     Ok(())
 }

@@ -1,0 +1,4 @@
+pub mod Grammar
+pub mod Headline
+pub mod RunSteps
+pub mod Spoken
