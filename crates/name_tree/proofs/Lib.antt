@@ -1,0 +1,13 @@
+pub mod RoomEntries
+pub mod NameRoomIds
+pub mod DirectoryIndex
+pub mod TreeNodes
+pub mod TreeWays
+pub mod TableRefusals
+pub mod Results
+pub mod SortedEntries
+pub mod SoundNames
+pub mod FlatNodes
+pub mod FlatEdits
+pub mod FlatMoves
+pub mod FlatLaws

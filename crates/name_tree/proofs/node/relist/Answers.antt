@@ -1,0 +1,20 @@
+use Rattle.std.proofs.Common.{◌∙◌, ap, sym, rules, Some}
+use Rattle.name_tree.specs.Rooms.{inner}
+use Rattle.name_tree.specs.Tree.{with_name}
+use Rattle.name_tree.proofs.TreeNodes.{nodes_set, nodes_same, nodes_back}
+use Rattle.name_tree.proofs.node.relist.Goals as goal
+
+pub returns-in-Some-place : goal.returns-in-Some-place
+returns-in-Some-place c = record {
+  nodes = nodes_set c.args.nodes.now.entries (c.get_mut.follows.lender (Some c.relist.new.self)).entries c.args.dir c.in-Some-place.node c.relist.new.self (with_name c.args.id c.args.name c.args.now) c.get_mut.ensures.ordered
+      (sym c.in-Some.ensures.value ∙ ap (λ o. Some o) c.in-Some-place.is) (c.get_mut.follows.holds (Some c.relist.new.self)).0 c.relist.ensures.node;
+}
+
+pub returns-in_default-place : goal.returns-in_default-place
+returns-in_default-place c = record {
+  nodes = nodes_back c.args.nodes.now.entries (c.get_mut.follows.lender c.in-Some.place.now).entries c.args.dir c.in-Some.place.now (with_name c.args.id c.args.name c.args.now) c.get_mut.ensures.ordered
+      (sym c.in-Some.ensures.value) c.in_default-place.is (c.get_mut.follows.holds c.in-Some.place.now).0;
+}
+
+pub returns-in_default : goal.returns-in_default
+returns-in_default c = record { nodes = nodes_same c.args.nodes.now.entries c.get_mut.follows.lender-at-none.entries c.args.dir (with_name c.args.id c.args.name c.args.now) c.get_mut.ensures.ordered (ap inner (sym c.in_default.ensures.value)) (search rules) }

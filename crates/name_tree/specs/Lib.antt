@@ -1,0 +1,12 @@
+pub mod Rooms
+pub mod NameRooms
+pub mod Directory
+pub mod Tree
+pub mod Views
+pub mod Seen
+pub mod Listing
+pub mod Refusals
+pub mod Access
+pub mod Table
+pub mod Judging
+pub mod Flat
