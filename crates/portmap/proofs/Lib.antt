@@ -1,0 +1,6 @@
+pub mod Answers
+pub mod Links
+pub mod HeardPieces
+pub mod MessageReplies
+pub mod Sessions
+mod Rows
