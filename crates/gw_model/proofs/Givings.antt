@@ -5,9 +5,9 @@ use Rattle.std.proofs.lemmas.Bool.Decides.{nat_tests}
 use Rattle.gw_model.specs.Order.{Accepted, end_of, reach, hung_writes, ordered_writes, standing_writes, with_let_go_above}
 use Rattle.gw_model.specs.Ahead.{Outcomes}
 use Rattle.gw_model.specs.File.{File, Step, Side, Seen, Job, side_of, seen_of, greatest, entry_of, reach_of, has_put, is_put_of, is_fetch, is_spilled, place_of, Append, Failure, Phase, Live, Stale, Task, Put, Compare, Fetch, Settle}
-use Rattle.gw_model.specs.Admission.{stale_step, hearing_step, hearing_step_in, with_hull_to_top, pump_lists, pump_rest, sent_lists, task_front, Plain, with_held, with_ready_sent, with_answers_before, silent_step, pump_result, pump_step_with}
+use Rattle.gw_model.specs.Admission.{struck_jobs, stale_step, hearing_step, hearing_step_in, with_hull_to_top, pump_lists, pump_rest, sent_lists, task_front, Plain, with_held, with_ready_sent, with_answers_before, silent_step, pump_result, pump_step_with}
 use Rattle.gw_model.specs.Ending.{give_up_step}
-use Rattle.gw_model.specs.Sides.{IsSideOf, IsNumberedFrom, HasSideStep, GiveUpLaw, entry_lost_above, entries_lost_above, seen_without_pending, side_give_up_step, entry_lost_with, entries_lost_with, struck_jobs, StaleLaw, side_stale_step, side_with_hull_to_top, side_hearing_step, side_hearing_step_in, HasNoPlaces, PumpLaw, OpenLaw, side_pump_step}
+use Rattle.gw_model.specs.Sides.{IsSideOf, IsNumberedFrom, HasSideStep, GiveUpLaw, entry_lost_above, entries_lost_above, seen_without_pending, side_give_up_step, entry_lost_with, entries_lost_with, StaleLaw, side_stale_step, side_with_hull_to_top, side_hearing_step, side_hearing_step_in, HasNoPlaces, PumpLaw, OpenLaw, side_pump_step}
 use Rattle.gw_model.proofs.Keeping.{place_gone}
 use Rattle.gw_model.proofs.Fold.{fold_let_go, low, put_all_low, standing_low, IsRising}
 use Rattle.gw_model.proofs.Sides.{side_is, seen_is}

@@ -9,7 +9,7 @@ use Rattle.gw_model.specs.Order.{Accepted, end_of, Piece, pieces, reach, kept_wr
 use Rattle.gw_model.specs.Ahead.{CallResult, Outcomes, Good, Bad, next_call, is_refused, past_refusal}
 use Rattle.gw_model.specs.declared.limits.Limits.{Limits}
 use Rattle.gw_model.specs.Statuses.{io, inval, jukebox}
-use Rattle.gw_model.specs.Bounds.{max_transfer, base_weight}
+use Rattle.gw_model.specs.Bounds.{base_weight, end_limit, max_transfer}
 use Rattle.gw_model.specs.File.{Task, Put, Compare, Fetch, Settle, Job, Waiting, Body, Wrote, NotWritten, NotCommitted, NotGiven, SystemErr, Silence, Answer, Failure, Cause, Append, Spill, Phase, Live, Stale, AdmissionState, File, Side, side_of, entry_of, Step, reach_of, pending_writes, top_of, is_spilled, ready_weight, memory_weight, settle_count, is_fetch, is_stale, is_empty}
 
 pub record WriteRequest : Type 0 where
@@ -55,7 +55,10 @@ pub record JobLists : Type 0 where
 
 abbrev pub sent_lists : ℕ → List Job → List Job → JobLists
 sent_lists slots line [] = record { line = line; ready = [] }
-sent_lists slots line (j ∷ js) = if nat_lt (length line) slots && not (is_spilled j) then sent_lists slots (line ++ j ∷ []) js else record { line = line; ready = j ∷ js }
+sent_lists slots line (j ∷ js) =
+    if nat_lt (length line) slots && not (is_spilled j)
+    then sent_lists slots (line ++ j ∷ []) js
+    else record { line = line; ready = j ∷ js }
 
 abbrev pub with_lists : JobLists → AdmissionState → AdmissionState
 with_lists l h = record h { line = l.line; ready = l.ready }
@@ -73,8 +76,25 @@ with_jobs js h = record h { ready = h.ready ++ js }
 abbrev pub with_held : File → AdmissionState → File
 with_held f h = record f { held = h }
 
+abbrev pub file_with_use : Limits → ℕ → File → File
+file_with_use limits moment f = with_held f (with_use limits moment f.held)
+
 abbrev pub job : Task → Option ℕ → Job
 job task ticket = record { task = task; ticket = ticket }
+
+-- the jobs that requests become
+abbrev pub compare_for : WriteRequest → Job
+compare_for q = job (Compare q.offset q.bytes q.level) (Some q.ticket)
+
+abbrev pub settle_for : CommitRequest → Job
+settle_for q = job Settle (Some q.ticket)
+
+abbrev pub fetch_for : ReadRequest → Job
+fetch_for q = job (Fetch q.offset (min q.count max_transfer)) (Some q.ticket)
+
+-- one more COMMIT waits
+abbrev pub with_waiting : ℕ → ℕ → AdmissionState → AdmissionState
+with_waiting goal ticket h = record h { waiting = h.waiting ++ record { goal = goal; ticket = ticket } ∷ [] }
 
 abbrev pub put_of : Piece → Job
 put_of p = job (Put p.number p.start p.bytes p.asked p.stable p.place) p.ticket
@@ -107,14 +127,22 @@ with_growth from to puts h = record h {
 unfoldable pub with_accepted : ℕ → File → Accepted → File
 with_accepted moment f w =
     let after = f.accepted ++ w ∷ [] in
-    record f { accepted = after; held = record (with_growth (reach f.base f.accepted) (reach f.base after) (new_puts f.base f.accepted after) f.held) { changed = Some moment } }
+    let puts = new_puts f.base f.accepted after in record f {
+      accepted = after;
+      held = record (with_growth (reach_of f) (reach f.base after) puts f.held) { changed = Some moment };
+    }
 
 -- the same on what the admission side sees: the write goes among the pending ones, and a walk from reach takes those in front
 unfoldable pub side_with_accepted : ℕ → Side → Accepted → Side
 side_with_accepted moment s w =
     let all = with_write w s.seen.pending in
     let to = reach_past s.seen.reach all in record {
-      seen = record { reach = to; top = max s.seen.top (end_of w); pending = writes_beyond s.seen.reach all; entries = s.seen.entries ++ entry_of [] w ∷ [] };
+      seen = record {
+        reach = to;
+        top = max s.seen.top (end_of w);
+        pending = writes_beyond s.seen.reach all;
+        entries = s.seen.entries ++ entry_of [] w ∷ [];
+      };
       held = record (with_growth s.seen.reach to (map put_of (walk s.seen.reach all)) s.held) { changed = Some moment };
     }
 
@@ -138,8 +166,9 @@ new_write_judgement limits s q (Some entry) = Again entry
 new_write_judgement limits s q None =
     let above = nat_lt s.seen.reach q.offset in
     let weight = base_weight + length q.bytes in
+    let in_last_part = nat_le (limits.history - limits.history / 16) (length s.seen.entries) in
     if nat_le limits.history (length s.seen.entries) then Busy
-    else if above && (nat_le limits.pending_max (length s.seen.pending) || nat_le (limits.history - limits.history / 16) (length s.seen.entries)) then Busy
+    else if above && (nat_le limits.pending_max (length s.seen.pending) || in_last_part) then Busy
     else if above && nat_lt limits.memory_cap (memory_weight s.seen.pending + weight) then Busy
     else if not above && nat_lt limits.ready_cap (ready_weight s.held.ready + weight) then Busy
     else Taken
@@ -188,10 +217,12 @@ repeat_of q entry =
 
 -- the entry's bytes are known
 abbrev pub repeat_step_by : Repeat → Limits → File → WriteRequest → Accepted → Outcomes → Step
-repeat_step_by Differs limits f q entry t = answer_step (with_held f (with_use limits q.moment f.held)) q.ticket (NotWritten inval) t
-repeat_step_by Unanswered limits f q entry t = answer_step (with_held f (with_use limits q.moment f.held)) q.ticket Silence t
-repeat_step_by Answered limits f q entry t = answer_step (with_held f (with_use limits q.moment f.held)) q.ticket (Wrote (length q.bytes) q.level) t
-repeat_step_by Takes limits f q entry t = silent_step (record f { accepted = writes_with_ticket entry.number q.level q.ticket f.accepted; held = with_use limits q.moment f.held }) t
+repeat_step_by Differs limits f q entry t = answer_step (file_with_use limits q.moment f) q.ticket (NotWritten inval) t
+repeat_step_by Unanswered limits f q entry t = answer_step (file_with_use limits q.moment f) q.ticket Silence t
+repeat_step_by Answered limits f q entry t = answer_step (file_with_use limits q.moment f) q.ticket (Wrote (length q.bytes) q.level) t
+repeat_step_by Takes limits f q entry t =
+    let taken = record f { accepted = writes_with_ticket entry.number q.level q.ticket f.accepted } in
+    silent_step (file_with_use limits q.moment taken) t
 
 abbrev pub repeat_step : Limits → File → WriteRequest → Accepted → Outcomes → Step
 repeat_step limits f q entry t = repeat_step_by (repeat_of q entry) limits f q entry t
@@ -202,12 +233,12 @@ repeat_step_if false limits f q entry t = repeat_step limits f q entry t
 
 -- by what the read did, and whether memory is refused then
 abbrev pub repeat_step_read : CallResult → Bool → Limits → File → WriteRequest → Accepted → Outcomes → Step
-repeat_step_read (Bad kept) refusal limits f q entry t = answer_step (with_held f (with_use limits q.moment f.held)) q.ticket (NotWritten io) t
+repeat_step_read (Bad kept) refusal limits f q entry t = answer_step (file_with_use limits q.moment f) q.ticket (NotWritten io) t
 repeat_step_read Good refusal limits f q entry t = repeat_step_if refusal limits f q entry t
 
 -- by whether the entry is on the device
 abbrev pub repeat_step_at : Bool → Limits → File → WriteRequest → Accepted → Outcomes → Step
-repeat_step_at true limits f q entry t = repeat_step_read (next_call t).called (is_refused (next_call t).ahead) limits f q entry (next_call t).ahead
+repeat_step_at true limits f q entry t = let c = next_call t in repeat_step_read c.called (is_refused c.ahead) limits f q entry c.ahead
 repeat_step_at false limits f q entry t = repeat_step limits f q entry t
 
 -- whether the request is answered when it is accepted
@@ -216,7 +247,16 @@ is_early n q = nat_lt n q.offset && is_unstable q.level
 
 -- the write that a request becomes, from its number and reach
 abbrev pub write_from : ℕ → ℕ → WriteRequest → Accepted
-write_from number n q = kept_write n (record { number = number; offset = q.offset; bytes = q.bytes; asked = length q.bytes; stable = q.level; ticket = (if is_early n q then None else Some q.ticket); place = None; let_go = false })
+write_from number n q = kept_write n (record {
+  number = number;
+  offset = q.offset;
+  bytes = q.bytes;
+  asked = length q.bytes;
+  stable = q.level;
+  ticket = if is_early n q then None else Some q.ticket;
+  place = None;
+  let_go = false;
+})
 
 abbrev pub early_answers : Bool → WriteRequest → List Answer
 early_answers true q = record { ticket = q.ticket; body = Wrote (length q.bytes) q.level } ∷ []
@@ -225,12 +265,12 @@ early_answers false q = []
 abbrev pub accept_step : Limits → File → WriteRequest → Outcomes → Step
 accept_step limits f q t =
     let g = with_accepted q.moment f (write_from (length f.accepted + 1) (reach_of f) q) in
-    record { file = with_held g (with_use limits q.moment g.held); answers = early_answers (is_early (reach_of f) q) q; ahead = t; uses = true }
+    record { file = file_with_use limits q.moment g; answers = early_answers (is_early (reach_of f) q) q; ahead = t; uses = true }
 
 abbrev pub write_step_by : WriteJudgement → Limits → File → WriteRequest → Outcomes → Step
 write_step_by Barred limits f q t = without_use (answer_step f q.ticket (NotWritten io) t)
-write_step_by Busy limits f q t = answer_step (with_held f (with_use limits q.moment f.held)) q.ticket (NotWritten jukebox) t
-write_step_by Compared limits f q t = silent_step (with_held f (with_use limits q.moment (with_jobs (job (Compare q.offset q.bytes q.level) (Some q.ticket) ∷ []) f.held))) t
+write_step_by Busy limits f q t = answer_step (file_with_use limits q.moment f) q.ticket (NotWritten jukebox) t
+write_step_by Compared limits f q t = silent_step (with_held f (with_use limits q.moment (with_jobs (compare_for q ∷ []) f.held))) t
 write_step_by (Again entry) limits f q t = repeat_step_at (is_some entry.place) limits f q entry t
 write_step_by Taken limits f q t = accept_step limits f q t
 
@@ -242,6 +282,10 @@ write_step_if false limits f q t = write_step_by (write_judgement limits (side_o
 -- A WRITE (RFC 1813 section 3.3.7) of an open file, of 1 to 1,048,576 bytes and with an end below 2 ^ 63.
 unfoldable pub write_step : Limits → File → WriteRequest → Outcomes → Step
 write_step limits f q t = write_step_if (is_refused t) limits f q t
+
+-- the limit of a COMMIT: its end, or the greatest end where its count is 0
+abbrev pub limit_of : ℕ → ℕ → ℕ
+limit_of offset count = if count == 0 then end_limit - 1 else min (offset + count) (end_limit - 1)
 
 -- the greatest end below the limit, of the entries that begin below it
 abbrev pub goal_of : ℕ → List Accepted → ℕ
@@ -269,9 +313,9 @@ commit_judgement limits s limit =
 
 abbrev pub commit_step_by : CommitJudgement → Limits → File → CommitRequest → Outcomes → Step
 commit_step_by CommitBarred limits f q t = without_use (answer_step f q.ticket (NotCommitted io) t)
-commit_step_by CommitBusy limits f q t = answer_step (with_held f (with_use limits q.moment f.held)) q.ticket (NotCommitted jukebox) t
-commit_step_by (Waits goal) limits f q t = silent_step (with_held f (with_use limits q.moment (record f.held { waiting = f.held.waiting ++ record { goal = goal; ticket = q.ticket } ∷ [] }))) t
-commit_step_by Settles limits f q t = silent_step (with_held f (with_use limits q.moment (with_jobs (job Settle (Some q.ticket) ∷ []) f.held))) t
+commit_step_by CommitBusy limits f q t = answer_step (file_with_use limits q.moment f) q.ticket (NotCommitted jukebox) t
+commit_step_by (Waits goal) limits f q t = silent_step (with_held f (with_use limits q.moment (with_waiting goal q.ticket f.held))) t
+commit_step_by Settles limits f q t = silent_step (with_held f (with_use limits q.moment (with_jobs (settle_for q ∷ []) f.held))) t
 
 abbrev pub commit_step_if : Bool → Limits → File → CommitRequest → Outcomes → Step
 commit_step_if true limits f q t = no_memory_step f q.ticket t
@@ -284,8 +328,8 @@ commit_step limits f q t = commit_step_if (is_refused t) limits f q t
 -- by whether memory is refused, and whether the ready list has no room
 abbrev pub read_step_if : Bool → Bool → Limits → File → ReadRequest → Outcomes → Step
 read_step_if true busy limits f q t = no_memory_step f q.ticket t
-read_step_if false true limits f q t = answer_step (with_held f (with_use limits q.moment f.held)) q.ticket (NotGiven jukebox) t
-read_step_if false false limits f q t = silent_step (with_held f (with_use limits q.moment (with_jobs (job (Fetch q.offset (min q.count max_transfer)) (Some q.ticket) ∷ []) f.held))) t
+read_step_if false true limits f q t = answer_step (file_with_use limits q.moment f) q.ticket (NotGiven jukebox) t
+read_step_if false false limits f q t = silent_step (with_held f (with_use limits q.moment (with_jobs (fetch_for q ∷ []) f.held))) t
 
 -- A READ (RFC 1813 section 3.3.6) of an open file.
 unfoldable pub read_step : Limits → File → ReadRequest → Outcomes → Step
@@ -316,14 +360,17 @@ job_refusals status js = flat_map (λ j. answer_if j.ticket (refusal j.task stat
 abbrev pub with_pending_let_go : File → File
 with_pending_let_go f = record f { accepted = with_let_go_above (reach_of f) f.accepted; held = record f.held { waiting = [] } }
 
+abbrev pub struck_jobs : List Job → List Job
+struck_jobs js = filter (λ j. not (is_fetch j)) js
+
 -- the ready jobs but for each Fetch are struck
 unfoldable pub stale_step : Cause → File → Outcomes → Step
 stale_step cause f t = record {
   file = record (with_pending_let_go f) {
-    struck = f.struck ++ filter (λ j. not (is_fetch j)) f.held.ready;
+    struck = f.struck ++ struck_jobs f.held.ready;
     held = record f.held { waiting = []; ready = filter is_fetch f.held.ready; phase = Stale cause };
   };
-  answers = entry_refusals io (pending_writes f) ++ waiting_refusals io f.held.waiting ++ job_refusals io (filter (λ j. not (is_fetch j)) f.held.ready);
+  answers = entry_refusals io (pending_writes f) ++ waiting_refusals io f.held.waiting ++ job_refusals io (struck_jobs f.held.ready);
   ahead = t;
   uses = true;
 }
@@ -373,7 +420,7 @@ load_kept false line ready t go = go t
 
 abbrev pub load_done : CallResult → ℕ → ℕ → List Job → List Job → Outcomes → (Outcomes → PumpWalk) → PumpWalk
 load_done Good number start line ready t go = load_kept (is_refused t) line ready t go
-load_done (Bad kept) number start line ready t go = record { lists = record { line = line; ready = ready }; ahead = t; stop = Breaks number start }
+load_done (Bad kept) number start line ready t go = record (pump_rest line ready t) { stop = Breaks number start }
 
 -- a load, by whether memory is refused before it
 abbrev pub load_step : Bool → ℕ → ℕ → List Job → List Job → Outcomes → (Outcomes → PumpWalk) → PumpWalk
@@ -397,7 +444,8 @@ job_in_line j = record j { task = task_in_line j.task }
 
 abbrev pub pump_lists : ℕ → List Job → List Job → Outcomes → PumpWalk
 pump_lists slots line [] t = pump_rest line [] t
-pump_lists slots line (j ∷ js) t = pump_one (pump_front slots line j) line (j ∷ js) t (λ u. pump_lists slots (line ++ job_in_line j ∷ []) js u)
+pump_lists slots line (j ∷ js) t =
+    pump_one (pump_front slots line j) line (j ∷ js) t (λ u. pump_lists slots (line ++ job_in_line j ∷ []) js u)
 
 abbrev pub with_fetches_sent : Limits → Step → Step
 with_fetches_sent limits s = record s { file = with_held s.file (with_ready_sent limits s.file.held) }
@@ -414,7 +462,10 @@ with_answers_before answers s = record s { answers = answers ++ s.answers }
 
 -- a pump with news of the writer, and one that asks the writer
 unfoldable pub pump_step_with : Limits → Option Failure → File → Outcomes → Step
-pump_step_with limits news f t = let h = hearing_step news f t in with_answers_before h.answers (pump_result (pump_lists limits.line_slots h.file.held.line h.file.held.ready h.ahead) limits h.file)
+pump_step_with limits news f t =
+    let h = hearing_step news f t in
+    let p = pump_lists limits.line_slots h.file.held.line h.file.held.ready h.ahead in
+    with_answers_before h.answers (pump_result p limits h.file)
 
 unfoldable pub pump_step : Limits → File → Outcomes → Step
 pump_step limits f t = pump_step_with limits f.writer.failed f t
@@ -459,7 +510,9 @@ with_placed_end n f = with_held f (record f.held { placed = n })
 abbrev pub spill_call_step : CallResult → Bool → Accepted → ℕ → File → Outcomes → Step
 spill_call_step (Bad n) refusal_comes w start f t = silent_step (with_placed_end (start + length w.bytes) f) t
 spill_call_step Good true w start f t = silent_step (with_placed_end (start + length w.bytes) f) (past_refusal t)
-spill_call_step Good false w start f t = silent_step (record (with_placed_end (start + length w.bytes) f) { accepted = writes_with_place w.number start f.accepted }) t
+spill_call_step Good false w start f t =
+    let placed = with_placed_end (start + length w.bytes) f in
+    silent_step (record placed { accepted = writes_with_place w.number start f.accepted }) t
 
 -- What a spill step does: nothing, or it moves an entry.
 pub data SpillJudgement : Type 0 where
@@ -475,7 +528,10 @@ spill_entry_judgement limits s None = Leaves
 spill_entry_judgement limits s (Some w) = spill_place_judgement w (place_for limits s (length w.bytes))
 
 unfoldable pub spill_judgement : Limits → Side → SpillJudgement
-spill_judgement limits s = if nat_le (memory_weight s.seen.pending) limits.memory_mark then Leaves else spill_entry_judgement limits s (last_in s.seen.pending)
+spill_judgement limits s =
+    if nat_le (memory_weight s.seen.pending) limits.memory_mark
+    then Leaves
+    else spill_entry_judgement limits s (last_in s.seen.pending)
 
 abbrev pub spill_step_by : SpillJudgement → File → Outcomes → Step
 spill_step_by Leaves f t = silent_step f t
