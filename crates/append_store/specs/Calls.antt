@@ -29,10 +29,18 @@ pub record Guards (old new : ObjectState) (before now : ℕ) : Type 0 where
   pub later : before ≤ now
   pub held : before ≡ now → durable_of old ≤ durable_of new
 
+-- the same of a store, by what it has under each name and its losses there
+abbrev pub GuardsAt : {C : Type 0} → (C → ObjectId → ObjectState) → (C → ObjectId → ℕ) → ObjectId → C → C → Type 0
+GuardsAt state losses q old new = Guards (state old q) (state new q) (losses old q) (losses new q)
+
 -- how many bytes of a piece of so many were added
 abbrev pub added_count : {T : Type 0} → Result T AppendFault → ℕ → ℕ
 added_count (Ok x) n = n
 added_count (Err e) n = e.kept
+
+-- the bytes of a piece that were added
+abbrev pub added_bytes : {T : Type 0} → Result T AppendFault → List ℕ → List ℕ
+added_bytes result bytes = take (added_count result (length bytes)) bytes
 
 -- so many of these bytes, from an offset on
 abbrev pub part_at : List ℕ → ℕ → ℕ → List ℕ

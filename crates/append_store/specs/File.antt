@@ -5,7 +5,7 @@ use Rattle.gw_outside.specs.Causes.{next_count, count_after}
 use Rattle.gw_outside.specs.Tally.{no_calls, one_call}
 use Rattle.gw_outside.specs.declared.tally.Tally.{Tally}
 use Rattle.append_store.specs.Plan.{due_of}
-use Rattle.append_store.specs.State.{kept_length}
+use Rattle.append_store.specs.State.{ObjectState, Kept, kept_length}
 use Rattle.append_store.specs.declared.mem_file.MemFile.{MemFile}
 use Rattle.append_store.specs.declared.mem_file.Planned.{Planned}
 use Rattle.append_store.specs.declared.store.AppendFault.{AppendFault}
@@ -35,6 +35,10 @@ file_state f = record {
   tally = f.tally;
 }
 
+-- the object that has what a file has
+abbrev pub kept_file : FileState → ObjectState
+kept_file f = Kept f.content f.durable
+
 -- the faults of a file in memory: both numbers together, up to the greatest u64
 abbrev pub file_count : FileState → ℕ
 file_count f = min (f.planned + f.starved) (2 ^ 64 - 1)
@@ -43,13 +47,18 @@ file_count f = min (f.planned + f.starved) (2 ^ 64 - 1)
 abbrev pub next_due : FileState → Option ℕ
 next_due f = due_of f.plan (next_count f.calls)
 
+-- a growth found no memory, and nothing is kept
+abbrev pub IsStarved : ℕ → ℕ → ℕ → Type 0
+IsStarved starved starved' kept = (starved' ≡ next_count starved) × (kept ≡ 0)
+
 -- a named append keeps the lesser of what its entry says and the piece; a growth that finds no
 -- memory keeps nothing, and makes any append fail; another one is done
 abbrev pub AppendOutcome : {T : Type 0} → Option ℕ → ℕ → ℕ → ℕ → Result T AppendFault → Type 0
 AppendOutcome None size starved starved' (Ok x) = starved' ≡ starved
-AppendOutcome None size starved starved' (Err e) = (starved' ≡ next_count starved) × (e.kept ≡ 0)
+AppendOutcome None size starved starved' (Err e) = IsStarved starved starved' e.kept
 AppendOutcome (Some kept) size starved starved' (Ok x) = ⊥
-AppendOutcome (Some kept) size starved starved' (Err e) = ((starved' ≡ starved) × (e.kept ≡ min kept size)) ⊎ ((starved' ≡ next_count starved) × (e.kept ≡ 0))
+AppendOutcome (Some kept) size starved starved' (Err e) =
+    ((starved' ≡ starved) × (e.kept ≡ min kept size)) ⊎ IsStarved starved starved' e.kept
 
 -- an append of so many bytes is counted, and makes nothing durable
 pub record FileAppendsAsPlanned {T : Type 0} (old new : FileState) (size : ℕ) (result : Result T AppendFault) : Type 0 where
@@ -115,4 +124,7 @@ pub record IsHandedOut (old new : FileState) (name : ObjectId) : Type 0 where
 
 -- the file after a crash that kept so many bytes more than were durable
 abbrev pub cut_file : ℕ → FileState → FileState
-cut_file pick f = record f { content = take (kept_length pick (length f.content) f.durable) f.content; durable = kept_length pick (length f.content) f.durable }
+cut_file pick f = record f {
+  content = take (kept_length pick (length f.content) f.durable) f.content;
+  durable = kept_length pick (length f.content) f.durable;
+}

@@ -1,13 +1,14 @@
 -- What a store in memory has under a name, and what one call does there.
-use Rattle.std.specs.Prelude.{◌≡◌, ◌+◌, ◌-◌, ◌^◌, ℕ, Bool, true, false, is_none, IsNone, IsSome, List, [], ◌∷◌, length, Option, Some, None}
+use Rattle.std.specs.Prelude.{◌≡◌, ◌≢◌, ◌+◌, ◌-◌, ◌^◌, ℕ, Bool, true, false, is_none, IsNone, IsSome, List, [], ◌∷◌, length, Option, Some, None}
+use Rattle.std.specs.BTreeMap.{BTreeMap, get}
 use Rattle.gw_model.specs.declared.object.KeptObject.{KeptObject}
 use Rattle.gw_model.specs.declared.object.ObjectId.{ObjectId}
 use Rattle.gw_outside.specs.Causes.{next_count}
 use Rattle.gw_outside.specs.Tally.{no_calls}
 use Rattle.append_store.specs.Plan.{plan_for, due_of}
-use Rattle.append_store.specs.Calls.{Creates}
+use Rattle.append_store.specs.Calls.{Creates, object_cmp}
 use Rattle.append_store.specs.State.{ObjectState, Missing, Kept, Lent, IsCrashImage, cut_state}
-use Rattle.append_store.specs.File.{FileState}
+use Rattle.append_store.specs.File.{FileState, kept_file}
 use Rattle.append_store.specs.declared.mem_file.Planned.{Planned}
 use Rattle.append_store.specs.declared.slots.Deletion.{Deletion}
 use Rattle.append_store.specs.declared.slots.Deletion.TheVariants.{Done, Planned as PlannedFault, Full}
@@ -35,6 +36,10 @@ entry_slot object entry = spot_slot object entry.spot entry.losses
 abbrev pub slot_of : List Planned → ObjectId → Option Entry → Slot
 slot_of failing object None = record { state = Missing; losses = 0; calls = 0; plan = plan_for object failing }
 slot_of failing object (Some entry) = entry_slot object entry
+
+-- the same by the entries of a store
+abbrev pub slot_in : List Planned → BTreeMap ObjectId Entry → ObjectId → Slot
+slot_in failing entries q = slot_of failing q (get object_cmp entries q)
 
 -- an object that is there, with its length
 abbrev pub entry_listing : ObjectId → Spot → List KeptObject → List KeptObject
@@ -69,10 +74,18 @@ pub record CreatesSlot (old new : Slot) (made : Bool) : Type 0 where
   pub failed : made ≡ false → new.state ≡ old.state
   pub counted : CountsCreate old new
 
+-- the file was taken of this object, which is out
+abbrev pub IsLentAs : Slot → FileState → Type 0
+IsLentAs slot file = slot.state ≡ Lent (file.object ∷ [])
+
+-- the object isn't out, or the file was taken of another one
+abbrev pub IsForeign : Slot → FileState → Type 0
+IsForeign slot file = slot.state ≢ Lent (file.object ∷ [])
+
 -- the file has what the object had, and its call was counted
 pub record IsTakenOf (old : Slot) (name : ObjectId) (file : FileState) : Type 0 where
   pub object : file.object ≡ name
-  pub kept : old.state ≡ Kept file.content file.durable
+  pub kept : old.state ≡ kept_file file
   pub plan : file.plan ≡ old.plan
   pub calls : file.calls ≡ next_count old.calls
   pub planned : file.planned ≡ 0
@@ -120,7 +133,7 @@ Related R (Some old) (Some new) = R old new
 
 -- the object has what the file had
 pub record IsBackAs (old new : Slot) (file : FileState) : Type 0 where
-  pub state : new.state ≡ Kept file.content file.durable
+  pub state : new.state ≡ kept_file file
   pub losses : new.losses ≡ old.losses
   pub calls : new.calls ≡ file.calls
   pub plan : new.plan ≡ file.plan

@@ -1,5 +1,5 @@
 -- What a store has under a name.
-use Rattle.std.specs.Prelude.{◌≡◌, ℕ, ◌≤◌, ◌+◌, min, List, [], length, take, Option, Some, None}
+use Rattle.std.specs.Prelude.{◌≡◌, ◌⊎◌, ℕ, ◌≤◌, ◌+◌, min, List, [], length, take, Option, Some, None}
 use Rattle.std.specs.Coded.{Unit-prop}
 use Rattle.gw_model.specs.declared.object.ObjectId.{ObjectId}
 
@@ -52,6 +52,10 @@ abbrev pub IsCrashImage : ObjectState → ObjectState → Type 0
 IsCrashImage Missing new = new ≡ Missing
 IsCrashImage (Kept bytes durable) new = (n : ℕ) × (durable ≤ n) × (n ≤ length bytes) × (new ≡ Kept (take n bytes) n)
 IsCrashImage (Lent mark) new = new ≡ Lent mark
+
+-- a call that failed may have left such an image
+abbrev pub MayCut : ObjectState → ObjectState → Type 0
+MayCut old new = (new ≡ old) ⊎ IsCrashImage old new
 
 -- how many bytes are kept of so many, of which so many are durable: these and so many more
 abbrev pub kept_length : ℕ → ℕ → ℕ → ℕ

@@ -5,11 +5,9 @@ use Rattle.gw_outside.specs.Causes.{next_count, count_after}
 use Rattle.gw_outside.specs.Tally.{no_calls}
 use Rattle.gw_outside.specs.declared.tally.Tally.{Tally}
 use Rattle.append_store.specs.Plan.{plan_for, is_store_call_named}
-use Rattle.append_store.specs.Calls.{object_cmp}
 use Rattle.append_store.specs.State.{ObjectState, Missing}
 use Rattle.append_store.specs.File.{FileState}
-use Rattle.std.specs.BTreeMap.{get}
-use Rattle.append_store.specs.Slots.{Slot, slot_due, slot_of, OnlyCounts, CountsCreate, IsDeleted, cut_slot}
+use Rattle.append_store.specs.Slots.{Slot, slot_due, slot_in, OnlyCounts, CountsCreate, IsDeleted, cut_slot}
 use Rattle.append_store.specs.declared.mem_cluster.MemCluster.{MemCluster}
 use Rattle.append_store.specs.declared.mem_file.Planned.{Planned}
 use Rattle.append_store.specs.declared.store.CreateFault.{CreateFault}
@@ -29,7 +27,7 @@ pub record StoreState : Type 0 where
 
 abbrev pub store_of : MemCluster → StoreState
 store_of c = record {
-  slots = λ q. slot_of c.failing.items q (get object_cmp c.entries q);
+  slots = slot_in c.failing.items c.entries;
   failing = c.failing.items;
   calls = c.calls;
   planned = c.planned;
@@ -61,9 +59,15 @@ pub record IsNewStore (store : StoreState) (entries : List Planned) : Type 0 whe
 
 -- a create that is named fails; another is done, unless the making of an entry finds no memory
 abbrev pub CreateOutcome : {T : Type 0} → StoreState → StoreState → ObjectId → Result T CreateFault → Type 0
-CreateOutcome old new object (Ok x) = IsNone (slot_due (old.slots object)) × (new.planned ≡ old.planned) × (new.starved ≡ old.starved) × CountsCreate (old.slots object) (new.slots object)
-CreateOutcome old new object (Err Fault) = IsSome (slot_due (old.slots object)) × (new.planned ≡ next_count old.planned) × (new.starved ≡ old.starved) × CountsCreate (old.slots object) (new.slots object)
-CreateOutcome old new object (Err Memory) = ((old.slots object).state ≡ Missing) × (new.planned ≡ old.planned) × (new.starved ≡ next_count old.starved) × (new.slots object ≡ old.slots object)
+CreateOutcome old new object (Ok x) =
+    IsNone (slot_due (old.slots object)) × (new.planned ≡ old.planned) × (new.starved ≡ old.starved)
+    × CountsCreate (old.slots object) (new.slots object)
+CreateOutcome old new object (Err Fault) =
+    IsSome (slot_due (old.slots object)) × (new.planned ≡ next_count old.planned) × (new.starved ≡ old.starved)
+    × CountsCreate (old.slots object) (new.slots object)
+CreateOutcome old new object (Err Memory) =
+    ((old.slots object).state ≡ Missing) × (new.planned ≡ old.planned) × (new.starved ≡ next_count old.starved)
+    × (new.slots object ≡ old.slots object)
 
 pub record CreatesAsPlanned {T : Type 0} (old new : StoreState) (object : ObjectId) (result : Result T CreateFault) : Type 0 where
   pub failing : new.failing ≡ old.failing

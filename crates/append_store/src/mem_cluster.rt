@@ -6,11 +6,11 @@ ghost use Rattle.gw_model.specs.declared.object.ObjectId.{ObjectId};
 ghost use Rattle.append_store.specs.declared.mem_file.Planned.{Planned};
 ghost use Rattle.gw_outside.specs.Causes.{HasCause, Rose, Carries};
 ghost use Rattle.gw_outside.specs.Tally.{joined_tally, no_calls, one_call};
-ghost use Rattle.append_store.specs.State.{IsAway, IsCrashImage, IsThere, Kept, Missing, Lent, bytes_of, content_in};
-ghost use Rattle.append_store.specs.Calls.{Creates, MayCreate, Guards, IsRising, Lists, creation_tally, listing_tally, object_cmp, part_at};
+ghost use Rattle.append_store.specs.State.{IsAway, IsCrashImage, IsThere, Missing, Lent, bytes_of, content_in};
+ghost use Rattle.append_store.specs.Calls.{Creates, MayCreate, GuardsAt, IsRising, Lists, creation_tally, listing_tally, object_cmp, part_at};
 ghost use Rattle.append_store.specs.Plan.{is_of, is_store_call_named, plan_for};
-ghost use Rattle.append_store.specs.File.{file_count, file_state};
-ghost use Rattle.append_store.specs.Slots.{CreatesSlot, IsCut, IsTakenOf, IsBackAs, Related, cut_slot, entries_listing, slot_of};
+ghost use Rattle.append_store.specs.File.{file_count, file_state, kept_file};
+ghost use Rattle.append_store.specs.Slots.{CreatesSlot, IsCut, IsTakenOf, IsBackAs, IsForeign, IsLentAs, Related, cut_slot, entries_listing, slot_in};
 ghost use Rattle.append_store.specs.Store.{IsNewStore, CreatesAsPlanned, TakesAsPlanned, ReadsClosedAsPlanned, DeletesAsPlanned, ListsAsPlanned, ReopensAsPlanned, AddsFaults, losses_at, slot_at, state_at, store_count, store_of};
 
 use crate::slots::{
@@ -100,7 +100,7 @@ fn list_in(
     alloc: Global,
     entries: &BTreeMap<ObjectId, Entry>,
 ) -> Result<Vec<KeptObject>, AllocError>
-    ensures listed { (failing : List Planned) → IfOk result (λ all. Lists (λ q. (slot_of failing q (get object_cmp entries.now q)).state) all.items) }
+    ensures listed { (failing : List Planned) → IfOk result (λ all. Lists (λ q. (slot_in failing entries.now q).state) all.items) }
     ensures rising { IfOk result (λ all. IsRising all.items) }
 {
     let all = listing(alloc, entries)?;
@@ -119,8 +119,9 @@ fn cut_each(entries: &mut BTreeMap<ObjectId, Entry>, pick: u64)
 
 // Makes the store what it may be after a crash.
 fn cut_all(entries: &mut BTreeMap<ObjectId, Entry>, pick: u64)
-    ensures image { (failing : List Planned) (q : ObjectId) → IsCrashImage (slot_of failing q (get object_cmp entries.old q)).state (slot_of failing q (get object_cmp entries.new q)).state }
-    ensures cut { (failing : List Planned) (q : ObjectId) → slot_of failing q (get object_cmp entries.new q) ≡ cut_slot pick (slot_of failing q (get object_cmp entries.old q)) }
+    ensures image { (failing : List Planned) (q : ObjectId)
+        → IsCrashImage (slot_in failing entries.old q).state (slot_in failing entries.new q).state }
+    ensures cut { (failing : List Planned) (q : ObjectId) → slot_in failing entries.new q ≡ cut_slot pick (slot_in failing entries.old q) }
 {
     cut_each(entries, pick);
 }
@@ -133,7 +134,8 @@ fn create_in(
     failing: &[Planned],
     object: ObjectId,
 ) -> Result<bool, AllocError>
-    ensures made { IfOk result (λ made. CreatesSlot (slot_of failing.now object (get object_cmp entries.old object)) (slot_of failing.now object (get object_cmp entries.new object)) made) }
+    ensures made { IfOk result (λ made.
+        CreatesSlot (slot_in failing.now entries.old object) (slot_in failing.now entries.new object) made) }
     ensures unused { OnErr result (get object_cmp entries.old object ≡ None) }
     ensures refused { OnErr result (get object_cmp entries.new object ≡ None) }
     ensures others { (q : ObjectId) → q ≢ object → get object_cmp entries.new q ≡ get object_cmp entries.old q }
@@ -233,7 +235,7 @@ impl Cluster for MemCluster {
         ensures failed { OnErr result (MayCreate (state_at self.old object) (state_at self.new object)) }
         ensures refused { IsErrOf result CreateFault.Memory → state_at self.new object ≡ state_at self.old object }
         ensures others { (q : ObjectId) → q ≢ object → slot_at self.new q ≡ slot_at self.old q }
-        ensures losses { Guards (state_at self.old object) (state_at self.new object) (losses_at self.old object) (losses_at self.new object) }
+        ensures losses { GuardsAt state_at losses_at object self.old self.new }
         ensures losses_there { state_at self.old object ≢ Missing → losses_at self.new object ≡ losses_at self.old object }
         ensures no_losses { (q : ObjectId) → q ≢ object → losses_at self.new q ≡ losses_at self.old q }
         ensures later { store_count self.old ≤ store_count self.new }
@@ -260,7 +262,7 @@ impl Cluster for MemCluster {
 
     fn take_file(&mut self, object: ObjectId) -> Result<MemFile, StoreFault>
         requires { IsThere (state_at self.old object) }
-        ensures taken { IfOk result (λ file. state_at self.old object ≡ Kept (file_state file).content (file_state file).durable) }
+        ensures taken { IfOk result (λ file. state_at self.old object ≡ kept_file (file_state file)) }
         ensures out { IfOk result (λ file. state_at self.new object ≡ Lent ((file_state file).object ∷ [])) }
         ensures fresh { IfOk result (λ file. file_count (file_state file) ≡ 0) }
         ensures no_calls { IfOk result (λ file. (file_state file).tally ≡ no_calls) }
@@ -287,16 +289,18 @@ impl Cluster for MemCluster {
     }
 
     fn give_file(&mut self, object: ObjectId, file: MemFile)
-        ensures own { state_at self.old object ≡ Lent ((file_state file).object ∷ []) → state_at self.new object ≡ Kept (file_state file).content (file_state file).durable }
-        ensures own_losses { state_at self.old object ≡ Lent ((file_state file).object ∷ []) → losses_at self.new object ≡ losses_at self.old object }
-        ensures foreign { state_at self.old object ≢ Lent ((file_state file).object ∷ []) → (state_at self.new object ≡ state_at self.old object) ⊎ (losses_at self.old object < losses_at self.new object) }
+        ensures own { IsLentAs (slot_at self.old object) (file_state file) → state_at self.new object ≡ kept_file (file_state file) }
+        ensures own_losses { IsLentAs (slot_at self.old object) (file_state file) → losses_at self.new object ≡ losses_at self.old object }
+        ensures foreign { IsForeign (slot_at self.old object) (file_state file)
+            → (state_at self.new object ≡ state_at self.old object) ⊎ (losses_at self.old object < losses_at self.new object) }
         ensures losses { losses_at self.old object ≤ losses_at self.new object }
         ensures others { (q : ObjectId) → q ≢ object → slot_at self.new q ≡ slot_at self.old q }
         ensures no_losses { (q : ObjectId) → q ≢ object → losses_at self.new q ≡ losses_at self.old q }
         ensures counted { self.new.tally ≡ joined_tally self.old.tally (file_state file).tally }
         ensures count { Carries (store_count self.old) (file_count (file_state file)) (store_count self.new) }
-        ensures back { state_at self.old object ≡ Lent ((file_state file).object ∷ []) → IsBackAs (slot_at self.old object) (slot_at self.new object) (file_state file) }
-        ensures let_go { state_at self.old object ≢ Lent ((file_state file).object ∷ []) → slot_at self.new object ≡ slot_at self.old object }
+        ensures back { IsLentAs (slot_at self.old object) (file_state file)
+            → IsBackAs (slot_at self.old object) (slot_at self.new object) (file_state file) }
+        ensures let_go { IsForeign (slot_at self.old object) (file_state file) → slot_at self.new object ≡ slot_at self.old object }
         ensures faults { AddsFaults (store_of self.old) (store_of self.new) (file_state file) }
     {
         self.planned = self.planned.saturating_add(file.planned());
@@ -344,7 +348,7 @@ impl Cluster for MemCluster {
         ensures done { OnOk result (state_at self.new object ≡ Missing) }
         ensures failed { OnErr result (state_at self.new object ≡ state_at self.old object) }
         ensures others { (q : ObjectId) → q ≢ object → slot_at self.new q ≡ slot_at self.old q }
-        ensures losses { Guards (state_at self.old object) (state_at self.new object) (losses_at self.old object) (losses_at self.new object) }
+        ensures losses { GuardsAt state_at losses_at object self.old self.new }
         ensures no_losses { (q : ObjectId) → q ≢ object → losses_at self.new q ≡ losses_at self.old q }
         ensures counted { self.new.tally ≡ one_call (is_err result) self.old.tally }
         ensures cause { HasCause (store_count self.old) (store_count self.new) result }

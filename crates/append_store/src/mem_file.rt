@@ -39,7 +39,7 @@ impl AppendFile for MemFile {
     ghost use Rattle.std.specs.Prelude.{IfOk, IfErr, OnOk, is_err};
     ghost use Rattle.gw_outside.specs.Causes.{HasCause};
     ghost use Rattle.gw_outside.specs.Tally.{one_call};
-    ghost use Rattle.append_store.specs.Calls.{added_count};
+    ghost use Rattle.append_store.specs.Calls.{added_bytes};
     ghost use Rattle.append_store.specs.File.{FileAppendsAsPlanned, FileReadsAsPlanned, FileSyncsAsPlanned, file_count, file_state};
 
     ghost tells = { Unit {0} };
@@ -58,7 +58,7 @@ impl AppendFile for MemFile {
 
     fn append(&mut self, bytes: &[u8]) -> Result<(), AppendFault>
         ensures kept { IfErr result (λ e. e.kept ≤ length bytes.now) }
-        ensures content { (file_state self.new).content ≡ (file_state self.old).content ++ take (added_count result (length bytes.now)) bytes.now }
+        ensures content { (file_state self.new).content ≡ (file_state self.old).content ++ added_bytes result bytes.now }
         ensures durable { (file_state self.old).durable ≤ (file_state self.new).durable }
         ensures same { (file_state self.new).object ≡ (file_state self.old).object }
         ensures counted { (file_state self.new).tally ≡ one_call (is_err result) (file_state self.old).tally }
@@ -153,8 +153,8 @@ pub(crate) fn copy_part(bytes: &[u8], offset: u64, out: &mut [u8]) -> usize
 
 impl MemFile {
     ghost use Rattle.std.specs.Prelude.{length, is_some};
-    ghost use Rattle.append_store.specs.State.{IsCrashImage, Kept};
-    ghost use Rattle.append_store.specs.File.{cut_file, IsFresh, IsDue, IsEmptied, IsHandedOut, counted_call, next_due, file_state};
+    ghost use Rattle.append_store.specs.State.{IsCrashImage};
+    ghost use Rattle.append_store.specs.File.{cut_file, IsFresh, IsDue, IsEmptied, IsHandedOut, counted_call, next_due, file_state, kept_file};
 
     // A file of no bytes, with the calls of this object that are to fail.
     pub(crate) fn empty(alloc: Global, object: ObjectId, plan: Vec<Planned>) -> Self
@@ -236,7 +236,7 @@ impl MemFile {
 
     // Keeps what is durable and so many bytes more, and all of that is durable then.
     pub(crate) fn cut(&mut self, pick: u64)
-        ensures image { IsCrashImage (Kept (file_state self.old).content (file_state self.old).durable) (Kept (file_state self.new).content (file_state self.new).durable) }
+        ensures image { IsCrashImage (kept_file (file_state self.old)) (kept_file (file_state self.new)) }
         ensures cut { file_state self.new ≡ cut_file pick (file_state self.old) }
     {
         let most = self.durable.saturating_add(pick as usize);

@@ -1,11 +1,11 @@
 // What a store in memory keeps under a name, and what one call does there.
-ghost use Rattle.std.specs.Prelude.{[], ◌∷◌, take, ◌≡◌, ◌≢◌, ◌++◌, ◌-◌, min, length, drop, IfSome, OnSome, IfNone, is_none, is_some};
+ghost use Rattle.std.specs.Prelude.{take, ◌≡◌, ◌++◌, ◌-◌, min, length, drop, IfSome, OnSome, IfNone, is_none, is_some};
 ghost use Rattle.std.specs.Option.{option_copied};
 ghost use Rattle.gw_model.specs.declared.object.ObjectId.{ObjectId};
-ghost use Rattle.append_store.specs.State.{IsThere, Lent, bytes_of, content_in};
+ghost use Rattle.append_store.specs.State.{IsThere, bytes_of, content_in};
 ghost use Rattle.append_store.specs.Calls.{part_at};
 ghost use Rattle.append_store.specs.File.{file_state};
-ghost use Rattle.append_store.specs.Slots.{CreatesSlot, IsCut, DeletesSlot, IsTakenOf, IsOut, OnlyCounts, IsBackAs, entry_slot, slot_due};
+ghost use Rattle.append_store.specs.Slots.{CreatesSlot, IsCut, DeletesSlot, IsForeign, IsLentAs, IsTakenOf, IsOut, OnlyCounts, IsBackAs, entry_slot, slot_due};
 
 use crate::MemFile;
 use crate::mem_file::copy_part;
@@ -72,8 +72,10 @@ pub(crate) fn take_at(object: ObjectId, entry: &mut Entry) -> Option<MemFile>
 
 // Puts a file back where it was taken, and lets go of it elsewhere.
 pub(crate) fn give_at(object: ObjectId, entry: &mut Entry, file: MemFile)
-    ensures own { (entry_slot object entry.old).state ≡ Lent ((file_state file).object ∷ []) → IsBackAs (entry_slot object entry.old) (entry_slot object entry.new) (file_state file) }
-    ensures foreign { (entry_slot object entry.old).state ≢ Lent ((file_state file).object ∷ []) → entry_slot object entry.new ≡ entry_slot object entry.old }
+    ensures own { IsLentAs (entry_slot object entry.old) (file_state file)
+        → IsBackAs (entry_slot object entry.old) (entry_slot object entry.new) (file_state file) }
+    ensures foreign { IsForeign (entry_slot object entry.old) (file_state file)
+        → entry_slot object entry.new ≡ entry_slot object entry.old }
 {
     if file.object() == object {
         if let Spot::Out = entry.spot {

@@ -4,8 +4,8 @@ ghost use Rattle.gw_outside.specs.Causes.{HasCause, Rose, Carries};
 ghost use Rattle.gw_outside.specs.Tally.{joined_tally, no_calls, one_call};
 ghost use Rattle.gw_outside.specs.declared.tally.Tally.{Tally};
 ghost use Rattle.gw_model.specs.declared.object.ObjectId.{ObjectId};
-ghost use Rattle.append_store.specs.State.{ObjectState, Missing, Kept, Lent, IsAway, IsCrashImage, IsThere, bytes_of};
-ghost use Rattle.append_store.specs.Calls.{Creates, MayCreate, Guards, IsRising, Lists, added_count, creation_tally, listing_tally, part_at};
+ghost use Rattle.append_store.specs.State.{ObjectState, Missing, Kept, Lent, IsAway, IsCrashImage, IsThere, MayCut, bytes_of};
+ghost use Rattle.append_store.specs.Calls.{Creates, MayCreate, GuardsAt, IsRising, Lists, added_bytes, creation_tally, listing_tally, part_at};
 
 use gw_model::{KeptObject, ObjectId};
 
@@ -62,7 +62,7 @@ pub trait AppendFile: Drop {
     /// added.
     fn append(&mut self, bytes: &[u8]) -> Result<(), AppendFault>
         ensures kept { IfErr result (λ e. e.kept ≤ length bytes.now) }
-        ensures content { tells → content self.new ≡ content self.old ++ take (added_count result (length bytes.now)) bytes.now }
+        ensures content { tells → content self.new ≡ content self.old ++ added_bytes result bytes.now }
         ensures durable { tells → durable self.old ≤ durable self.new }
         ensures same { mark self.new ≡ mark self.old }
         ensures counted { tally self.new ≡ one_call (is_err result) (tally self.old) }
@@ -143,7 +143,7 @@ pub trait Cluster: Drop {
         ensures others { Self.File.tells → (q : ObjectId) → q ≢ object → at self.new q ≡ at self.old q }
 
         // Only where nothing was there may the losses rise.
-        ensures losses { Self.File.tells → Guards (at self.old object) (at self.new object) (losses self.old object) (losses self.new object) }
+        ensures losses { Self.File.tells → GuardsAt at losses object self.old self.new }
         ensures losses_there { Self.File.tells → at self.old object ≢ Missing → losses self.new object ≡ losses self.old object }
         ensures no_losses { Self.File.tells → (q : ObjectId) → q ≢ object → losses self.new q ≡ losses self.old q }
         ensures later { count self.old ≤ count self.new }
@@ -154,7 +154,8 @@ pub trait Cluster: Drop {
     /// takes nothing out.
     fn take_file(&mut self, object: ObjectId) -> Result<Self::File, StoreFault>
         requires { Self.File.tells → IsThere (at self.old object) }
-        ensures taken { IfOk result (λ file. Self.File.tells → at self.old object ≡ Kept (Self.File.content file) (Self.File.durable file)) }
+        ensures taken { IfOk result (λ file. Self.File.tells
+            → at self.old object ≡ Kept (Self.File.content file) (Self.File.durable file)) }
         ensures out { IfOk result (λ file. Self.File.tells → at self.new object ≡ Lent (Self.File.mark file)) }
         ensures fresh { IfOk result (λ file. Self.File.count file ≡ 0) }
         ensures no_calls { IfOk result (λ file. Self.File.tally file ≡ no_calls) }
@@ -167,8 +168,10 @@ pub trait Cluster: Drop {
     /// Puts a file back, and adds its failures and its tally to the store's. The file is foreign where
     /// the object isn't out or where it was taken of another one: a store may then lose the object.
     fn give_file(&mut self, object: ObjectId, file: Self::File)
-        ensures own { Self.File.tells → at self.old object ≡ Lent (Self.File.mark file) → at self.new object ≡ Kept (Self.File.content file) (Self.File.durable file) }
-        ensures own_losses { Self.File.tells → at self.old object ≡ Lent (Self.File.mark file) → losses self.new object ≡ losses self.old object }
+        ensures own { Self.File.tells → at self.old object ≡ Lent (Self.File.mark file)
+            → at self.new object ≡ Kept (Self.File.content file) (Self.File.durable file) }
+        ensures own_losses { Self.File.tells → at self.old object ≡ Lent (Self.File.mark file)
+            → losses self.new object ≡ losses self.old object }
         ensures losses { Self.File.tells → losses self.old object ≤ losses self.new object }
         ensures others { Self.File.tells → (q : ObjectId) → q ≢ object → at self.new q ≡ at self.old q }
         ensures no_losses { Self.File.tells → (q : ObjectId) → q ≢ object → losses self.new q ≡ losses self.old q }
@@ -199,7 +202,7 @@ pub trait Cluster: Drop {
         ensures done { OnOk result (Self.File.tells → at self.new object ≡ Missing) }
         ensures failed { OnErr result (Self.File.tells → (at self.new object ≡ at self.old object) ⊎ (at self.new object ≡ Missing)) }
         ensures others { Self.File.tells → (q : ObjectId) → q ≢ object → at self.new q ≡ at self.old q }
-        ensures losses { Self.File.tells → Guards (at self.old object) (at self.new object) (losses self.old object) (losses self.new object) }
+        ensures losses { Self.File.tells → GuardsAt at losses object self.old self.new }
         ensures no_losses { Self.File.tells → (q : ObjectId) → q ≢ object → losses self.new q ≡ losses self.old q }
         ensures counted { tally self.new ≡ one_call (is_err result) (tally self.old) }
         ensures cause { HasCause (count self.old) (count self.new) result };
@@ -210,7 +213,7 @@ pub trait Cluster: Drop {
     fn reopen(&mut self, pick: u64) -> Result<(), StoreFault>
         requires { Self.File.tells → (q : ObjectId) → IsAway (at self.old q) → ⊥ }
         ensures done { OnOk result (Self.File.tells → (q : ObjectId) → IsCrashImage (at self.old q) (at self.new q)) }
-        ensures failed { OnErr result (Self.File.tells → (q : ObjectId) → (at self.new q ≡ at self.old q) ⊎ IsCrashImage (at self.old q) (at self.new q)) }
+        ensures failed { OnErr result (Self.File.tells → (q : ObjectId) → MayCut (at self.old q) (at self.new q)) }
         ensures no_losses { Self.File.tells → (q : ObjectId) → losses self.new q ≡ losses self.old q }
         ensures counted { tally self.new ≡ one_call (is_err result) (tally self.old) }
         ensures cause { HasCause (count self.old) (count self.new) result };

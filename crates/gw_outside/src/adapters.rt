@@ -40,7 +40,8 @@ impl<R: Read + Drop> Source for Reading<R> {
     fn read(&mut self, out: &mut [u8]) -> Result<usize, ReadFault>
         ensures bound { ReadsAtMost result out.new }
         ensures bytes { ReadConsumes (⟦<Reading<R> as Source>⟧.left self.old) (⟦<Reading<R> as Source>⟧.left self.new) result out.new }
-        ensures ended { ⟦<Reading<R> as Source>⟧.ended self.new ≡ ended_after (⟦<Reading<R> as Source>⟧.ended self.old) result (length out.old) }
+        ensures ended { ⟦<Reading<R> as Source>⟧.ended self.new
+            ≡ ended_after (⟦<Reading<R> as Source>⟧.ended self.old) result (length out.old) }
         ensures cause { HasCause (⟦<Reading<R> as Source>⟧.count self.old) (⟦<Reading<R> as Source>⟧.count self.new) result }
         ensures exact { ⟦<Reading<R> as Source>⟧.count self.new ≡ count_after (⟦<Reading<R> as Source>⟧.count self.old) (is_err result) }
     {

@@ -116,7 +116,8 @@ impl<D: SpillDevice> SpillFile<D> {
 
         // An extent whose write failed is freed, but was placed.
         ensures fault { IsErrOf result SpillFail.Fault → Rose self.old.faults self.new.faults }
-        ensures fault_region { IsErrOf result SpillFail.Fault → region_of self.new ≡ region_after_fault (region_of self.old) (length bytes.now) }
+        ensures fault_region { IsErrOf result SpillFail.Fault
+            → region_of self.new ≡ region_after_fault (region_of self.old) (length bytes.now) }
         ensures err { OnErr result (extents_of self.new.kept ≡ extents_of self.old.kept) }
         ensures err_kept { OnErr result (D.tells → self.new.kept ≡ self.old.kept) }
         ensures later { self.old.faults ≤ self.new.faults }

@@ -4,7 +4,7 @@ use Rattle.gw_outside.specs.Tally.{calls_tally}
 use Rattle.gw_model.specs.Ahead.{Outcomes, CallResult, Good, Bad, failures_among, is_refused, outcome_of, past_refusal}
 use Rattle.gw_model.specs.declared.Stable.{Stable}
 use Rattle.gw_model.specs.File as model
-use Rattle.gw_model.specs.File.{Answer, Body, Wrote, NotWritten, Committed, NotCommitted, Gave, NotGiven, SystemErr, Silence, Writer}
+use Rattle.gw_model.specs.File.{Put, Answer, Body, Wrote, NotWritten, Committed, NotCommitted, Gave, NotGiven, SystemErr, Silence, Writer}
 use Rattle.gw_model.specs.Admission.{answer_if, is_unstable, same_bytes}
 use Rattle.gw_model.specs.Statuses.{io, inval}
 use Rattle.gw_model.specs.Writer.{WriterStep, writer_step, job_step, range_of, store_step}
@@ -165,7 +165,8 @@ HasFailure calls failed = ((e : model.Failure) × (failed ≡ Some e)) ⊎ (fail
 -- failed call, and INVAL a comparison that was made; no other refusal is given.
 abbrev pub BodyCause : Body → Job → List CallResult → Option model.Failure → Type 0
 BodyCause (Wrote count level) j calls failed = IsDone j calls failed
-BodyCause (NotWritten status) j calls failed = ((status ≡ io) × HasFailure calls failed) ⊎ ((status ≡ inval) × (is_compare j ≡ true) × IsDone j calls failed)
+BodyCause (NotWritten status) j calls failed =
+    ((status ≡ io) × HasFailure calls failed) ⊎ ((status ≡ inval) × (is_compare j ≡ true) × IsDone j calls failed)
 BodyCause Committed j calls failed = ⊥
 BodyCause (NotCommitted status) j calls failed = (status ≡ io) × ((e : model.Failure) × (failed ≡ Some e))
 BodyCause (Gave bytes eof) j calls failed = failures_among calls ≡ 0
@@ -200,7 +201,8 @@ pub record Works (tells : Type 0) (j : Job) (answers : List Answer) (old new : W
 
 -- the write of a job is stored, and answered or not, whatever outcomes are ahead
 abbrev pub IsAnswered : Option ℕ → ℕ → Stable → Writer → Writer → List Answer → Type 0
-IsAnswered ticket count level old new answers = (t : Outcomes) → store_step (is_unstable level) ticket count level old t ≡ writer_step new answers t
+IsAnswered ticket count level old new answers = (t : Outcomes)
+    → store_step (is_unstable level) ticket count level old t ≡ writer_step new answers t
 
 -- what follows an append, by how it ended
 abbrev pub put_step : Appended → Option ℕ → ℕ → Stable → Writer → Outcomes → WriterStep
@@ -212,7 +214,7 @@ pub record Puts (tells : Type 0) (bytes : List ℕ) (ended : Appended) (old new 
   pub calls : List CallResult
   pub next : (number start count : ℕ) (level : Stable) (place ticket : Option ℕ) → IsNextPut old.writer start
       → (all : List ℕ) (t : Outcomes)
-      → job_step (record { task = model.Put number start bytes count level place; ticket = ticket }) all old.writer (with_calls_ahead calls t)
+      → job_step (record { task = Put number start bytes count level place; ticket = ticket }) all old.writer (with_calls_ahead calls t)
       ≡ put_step ended ticket count level new.writer t
   pub notes : noted' ≡ with_calls calls noted
   pub file : Leaves tells (appended_bytes calls bytes) calls old.file new.file

@@ -1,6 +1,7 @@
 // The writer of an open file.
-ghost use Rattle.std.specs.Prelude.{◌≡◌, ℕ, ◌+◌, ◌-◌, ◌<◌, ◌≤◌, ◌∷◌, ◌++◌, ◌^◌, [], IfOk, IfErr, None, drop, length, min, nat_le, nat_lt, slice_get};
+ghost use Rattle.std.specs.Prelude.{◌≡◌, ℕ, ◌+◌, ◌-◌, ◌<◌, ◌≤◌, ◌∷◌, ◌++◌, ◌^◌, [], IfOk, IfErr, None, drop, length, min, nat_le, nat_lt, slice_get, vec_len};
 ghost use Rattle.std.specs.Option.{option_map};
+ghost use Rattle.std.specs.Vec.{vec_capacity};
 ghost use Rattle.std.specs.VecDeque.{deque_len, deque_capacity};
 ghost use Rattle.gw_model.specs.Ahead.{Outcomes, Good, Bad};
 ghost use Rattle.gw_model.specs.Admission.{is_unstable};
@@ -62,13 +63,14 @@ pub struct Writer<F: AppendFile> {
     // The tickets that wait for a sync, in order; where there is a fate, those that wait no more and weren't answered yet.
     owed: VecDeque<Owed>,
     fate: Option<Fate>,
-    // What the file has, where it is compared.
+    // What the file has, where it is compared: as long as the longest comparison so far.
     buffer: Vec<u8>,
     alloc: Global,
 }
 
 impl<F: AppendFile> Model for Writer<F> {
-    ghost use Rattle.std.specs.Prelude.{◌≡◌, ◌≤◌, vec_len};
+    ghost use Rattle.std.specs.Prelude.{◌≤◌};
+    ghost use Rattle.std.specs.Vec.{vec_capacity};
     ghost use Rattle.std.specs.VecDeque.{deque_capacity};
     ghost use Rattle.gw_model.specs.Bounds.{max_transfer, max_waiting};
     ghost use Rattle.writeback.specs.State.{WriterSeen, file_seen, writer_seen};
@@ -78,7 +80,7 @@ impl<F: AppendFile> Model for Writer<F> {
     ghost view = { λ w. writer_seen w.stored w.synced w.failed w.fate w.owed.items
         (file_seen F.mark F.content F.durable F.count F.tally w.file) };
 
-    ghost invariant = { λ w. (max_waiting ≤ deque_capacity w.owed) × (vec_len w.buffer ≡ max_transfer) };
+    ghost invariant = { λ w. (max_waiting ≤ deque_capacity w.owed) × (max_transfer ≤ vec_capacity w.buffer) };
 }
 
 // Adds to those that wait, where there is room.
@@ -90,6 +92,17 @@ fn push_waiting(owed: &mut VecDeque<Owed>, next: Owed)
     match owed.push_back(next) {
         Ok(()) => {}
         Err(_) => unreachable!(),
+    }
+}
+
+// Makes a buffer at least so long. It has the capacity, so that can't fail, and each of its bytes is cleared once.
+fn lengthen(buffer: &mut Vec<u8>, len: usize)
+    requires { len ≤ vec_capacity buffer.old }
+    ensures length { len ≤ vec_len buffer.new }
+    ensures capacity { vec_capacity buffer.old ≤ vec_capacity buffer.new }
+{
+    if buffer.len() < len && buffer.resize(len, 0).is_err() {
+        unreachable!();
     }
 }
 
@@ -150,10 +163,9 @@ impl<F: AppendFile> Writer<F> {
         let Ok(owed) = VecDeque::with_capacity(alloc, MAX_WAITING) else {
             return Err(file);
         };
-        let mut buffer = Vec::new(alloc);
-        if buffer.resize(MAX_TRANSFER as usize, 0).is_err() {
+        let Ok(buffer) = Vec::with_capacity(alloc, MAX_TRANSFER as usize) else {
             return Err(file);
-        }
+        };
         let stored = file.len();
         Ok(Writer {
             file,
@@ -302,6 +314,7 @@ impl<F: AppendFile> Writer<F> {
         ensures notes { trace.new ≡ with_calls (compare_call result ∷ []) trace.old }
         ensures file { Leaves F.tells [] (compare_call result ∷ []) self.old.file self.new.file }
     {
+        lengthen(&mut self.buffer, bytes.len());
         compare_in(&mut self.file, &mut self.buffer, offset, bytes, trace)
     }
 
