@@ -1,6 +1,7 @@
 -- What a request meets, as the definitions have it.
 use Rattle.std.specs.Prelude.{◌≡◌, length, Option, None, Some}
 use Rattle.gw_model.specs.Order.{Accepted}
+use Rattle.gw_model.specs.File.{Seen}
 use Rattle.gw_model.specs.Admission as model
 use Rattle.gw_model.specs.Admission.{WriteRequest, repeat_of, same_range, write_judgement, new_write_judgement}
 use Rattle.admit.specs.Calls.{write_request}
@@ -43,14 +44,14 @@ commit_judgement_of meets.Settles = model.Settles
 commit_judgement_of (meets.Waits goal) = model.Waits goal
 
 -- what is found in the range of a request, and what it meets
-abbrev pub pending_in_range : WriteReq → AdmitState → Option Accepted
-pending_in_range r s = same_range r.offset (length r.bytes) s.side.seen.pending
+abbrev pub pending_in_range : WriteReq → Seen → Option Accepted
+pending_in_range r s = same_range r.offset (length r.bytes) s.pending
 
-abbrev pub Finds : Found → WriteReq → AdmitState → Type 0
+abbrev pub Finds : Found → WriteReq → Seen → Type 0
 Finds found r s = MatchesPending found (write_request r) (pending_in_range r s)
 
 abbrev pub JudgesNew : WriteJudgement → WriteReq → AdmitState → Type 0
 JudgesNew j r s = MatchesJudgement j (write_request r) None (new_write_judgement s.limits s.side (write_request r) None)
 
 abbrev pub Judges : WriteJudgement → WriteReq → AdmitState → Type 0
-Judges j r s = MatchesJudgement j (write_request r) (pending_in_range r s) (write_judgement s.limits s.side (write_request r))
+Judges j r s = MatchesJudgement j (write_request r) (pending_in_range r s.side.seen) (write_judgement s.limits s.side (write_request r))

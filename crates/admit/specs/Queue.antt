@@ -3,7 +3,7 @@ use Rattle.std.specs.Prelude.{ℕ, ◌^◌, Bool, true, ◌&&◌, nat_lt, List, 
 use Rattle.std.specs.List.{filter}
 use Rattle.gw_model.specs.File as model
 use Rattle.gw_model.specs.File.{ready_weight, settle_count, fetch_count, is_fetch, task_weight}
-use Rattle.gw_model.specs.Sides.{struck_jobs}
+use Rattle.gw_model.specs.Admission.{struck_jobs}
 use Rattle.admit.specs.declared.job.Job.{Job}
 use Rattle.admit.specs.Jobs.{ready_job}
 

@@ -1,13 +1,11 @@
 -- The jobs that were sent and those that are ready.
-use Rattle.std.specs.Prelude.{ℕ, List, ◌++◌, ◌+◌, map, length}
+use Rattle.std.specs.Prelude.{ℕ, List, [], ◌∷◌, ◌++◌, ◌+◌, map, max, length}
 use Rattle.std.specs.VecDeque.{deque_len}
-use Rattle.gw_model.specs.Order.{walk}
+use Rattle.gw_model.specs.Order.{Accepted, end_of, reach_past, walk, with_write, writes_beyond}
 use Rattle.gw_model.specs.File as model
-use Rattle.gw_model.specs.Admission.{JobLists, sent_lists, put_of, settles_at}
-use Rattle.commit_queue.specs.Queue.{QueueState}
-use Rattle.range_map.specs.declared.entry.Entry.{Entry}
+use Rattle.gw_model.specs.File.{Seen, entry_of}
+use Rattle.gw_model.specs.Admission.{JobLists, sent_lists, put_of}
 use Rattle.admit.specs.Line.{end_after, last_jobs}
-use Rattle.admit.specs.Parts.{all_waiting, writes_of, writes_with}
 use Rattle.admit.specs.Queue.{ready_jobs}
 use Rattle.admit.specs.declared.line.Queue.{Queue}
 
@@ -25,14 +23,18 @@ lists_after slots q = sent_lists slots (last_jobs q.line.in_line q.line.input) (
 abbrev pub queue_end : Queue → ℕ
 queue_end q = end_after q.line.input q.ready.items
 
--- the ready jobs, and the Puts of pending entries that a walk from n on takes
-abbrev pub jobs_ahead : Queue → ℕ → List Entry → List model.Job
-jobs_ahead q n es = ready_jobs q.ready.items ++ map put_of (walk n (writes_of es))
+-- what is seen once a write was accepted, before reach is looked at
+abbrev pub seen_with : Accepted → Seen → Seen
+seen_with w s = record s { top = max s.top (end_of w); pending = with_write w s.pending; entries = s.entries ++ entry_of [] w ∷ [] }
 
--- the ready jobs, the Puts of a walk from n on over the entries with one more, and the Settles once reach is at an end
-abbrev pub jobs_once : Queue → ℕ → ℕ → Entry → List Entry → QueueState → List model.Job
-jobs_once q n end e es w = ready_jobs q.ready.items ++ map put_of (walk n (writes_with e es)) ++ settles_at end (all_waiting w.commits)
+-- what is seen once a walk from reach on has taken the pending writes in front
+abbrev pub seen_released : Seen → Seen
+seen_released s = record s { reach = reach_past s.reach s.pending; pending = writes_beyond s.reach s.pending }
 
--- how many jobs are ready once all of these entries are
-abbrev pub load_with : Queue → List Entry → ℕ
-load_with q es = deque_len q.ready + length es
+-- the ready jobs, and the Puts of the pending writes that the walk takes
+abbrev pub jobs_ahead : Queue → Seen → List model.Job
+jobs_ahead q s = ready_jobs q.ready.items ++ map put_of (walk s.reach s.pending)
+
+-- how many jobs are ready once all pending writes are
+abbrev pub load_with : Queue → Seen → ℕ
+load_with q s = deque_len q.ready + length s.pending

@@ -1,24 +1,19 @@
 // The answers that a call left, one by one, and the history of what was given up.
-ghost use Rattle.std.specs.Prelude.{◌≡◌, ◌<◌, ◌≤◌, [], ◌∷◌, map, nat_lt, ◌||◌, vec_len};
+ghost use Rattle.std.specs.Prelude.{◌≡◌, ◌<◌, [], ◌∷◌, map, nat_lt, ◌||◌, vec_len};
 ghost use Rattle.std.specs.VecDeque.{deque_capacity};
-ghost use Rattle.gw_model.specs.Admission.{refusal, job_refusals};
-ghost use Rattle.gw_model.specs.Statuses.{io};
 ghost use Rattle.gw_model.specs.Sides.{entries_lost_above, entries_lost_with};
 ghost use Rattle.admit.specs.Jobs.{ready_job};
-ghost use Rattle.admit.specs.Line.{end_after};
-ghost use Rattle.admit.specs.Queue.{ready_jobs, fetches_of, others_of};
+ghost use Rattle.admit.specs.Queue.{ready_jobs};
 ghost use Rattle.admit.specs.GivenUp.{entry_answers, waiting_answers, job_answers, Hands, RefusesJob};
 ghost use Rattle.admit.specs.Parts.{AreNumberedFrom, entries_lost_at, line_of};
 
 use crate::job::Job;
-use crate::line::Queue;
 use crate::phase::HistoryEntry;
-use crate::queue::strike;
 use commit_queue::Waiting;
 use range_map::{Entry, PendingMap};
 use std::alloc::Global;
 use std::collections::VecDeque;
-use tickets::{Answer, Ticket};
+use tickets::Answer;
 
 /// What was given up and wasn't answered yet, with the status that it is to be answered.
 #[derive(Drop)]
@@ -151,9 +146,9 @@ fn lose_line(history: &mut Vec<HistoryEntry>, number: u32)
     }
 }
 
-// The lines of the Puts among jobs are lost.
+/// The lines of the Puts among jobs are lost.
 #[tactic(auto, using(crate::proofs::GivenUpLines::numbers))]
-fn lose_jobs(history: &mut Vec<HistoryEntry>, jobs: &VecDeque<Job>)
+pub fn lose_jobs(history: &mut Vec<HistoryEntry>, jobs: &VecDeque<Job>)
     requires numbered { AreNumberedFrom 0 (map line_of history.old.items) }
     ensures lines { map line_of history.new.items ≡ entries_lost_with (ready_jobs jobs.now.items) (map line_of history.old.items) }
     ensures numbered { AreNumberedFrom 0 (map line_of history.new.items) }
@@ -180,21 +175,4 @@ fn lose_job(history: &mut Vec<HistoryEntry>, job: &Job)
         Job::Fetch { .. } => {}
         Job::Settle { .. } => {}
     }
-}
-
-/// Gives up the ready jobs but for Fetches.
-pub fn strike_ready(queue: &mut Queue, leaving: &mut VecDeque<Job>, history: &mut Vec<HistoryEntry>)
-    requires room { queue.old.fetches ≤ deque_capacity leaving.old }
-    requires numbered { AreNumberedFrom 0 (map line_of history.old.items) }
-    ensures ready { ready_jobs queue.new.ready.items ≡ fetches_of queue.old.ready.items }
-    ensures left { ready_jobs leaving.new.items ≡ others_of queue.old.ready.items }
-    ensures numbered { AreNumberedFrom 0 (map line_of history.new.items) }
-    ensures spare { queue.new.fetches ≤ deque_capacity leaving.new }
-    ensures line { queue.new.line ≡ queue.old.line }
-    ensures end { end_after queue.new.line.input queue.new.ready.items ≤ end_after queue.old.line.input queue.old.ready.items }
-    ensures lines { map line_of history.new.items ≡ entries_lost_with (others_of queue.old.ready.items) (map line_of history.old.items) }
-    ensures len { vec_len history.new ≡ vec_len history.old }
-{
-    strike(queue, leaving);
-    lose_jobs(history, leaving);
 }

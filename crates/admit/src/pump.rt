@@ -2,46 +2,32 @@
 ghost use Rattle.std.specs.Prelude.{◌≡◌, ◌+◌, [], length, true, false};
 ghost use Rattle.gw_model.specs.Admission.{with_ready_sent};
 ghost use Rattle.gw_model.specs.File.{is_stale};
-ghost use Rattle.gw_model.specs.Ending.{hull_of_entries};
-ghost use Rattle.gw_model.specs.Sides.{HasNoPlaces, side_refusals, seen_without_pending, side_give_up_step, side_hearing_step, side_with_hull_to_top, side_pump_step, side_stale_step};
+ghost use Rattle.gw_model.specs.Sides.{HasNoPlaces, side_give_up_step, side_hearing_step};
+ghost use Rattle.gw_model.specs.Sides.{side_with_hull_to_top, side_pump_step, side_stale_step};
 ghost use Rattle.admit.specs.Line.{GoesOn};
 ghost use Rattle.admit.specs.State.{cause_of};
 ghost use Rattle.admit.specs.Calls.{GivesUp, IsPumped, Pumps, left_state, news_of, pump_state, let_go_state, with_sent};
 
 use crate::admit::Admit;
-use crate::given_up::{lose_lines, strike_ready};
 use crate::laws::request_laws;
 use crate::phase::{Cause, Phase};
-use crate::queue::send_all;
+use crate::queue::{send_all, strike};
 use crate::request::{News, Pumped};
 use commit_queue::Waiting;
+use gw_model::join_hull;
 use gw_model::status::NFS3ERR_IO;
-use gw_model::{Hull, join_hull};
 use range_map::PendingMap;
 use std::mem;
 
 impl<M: PendingMap> Admit<M> {
-    // The hull of what hangs joins the lost hull.
-    #[tactic(auto, using(crate::proofs::CommitGoals::goals_of, crate::proofs::CommitGoals::firsts_of))]
-    fn lost_hull(&self) -> Option<Hull>
-        ensures { result ≡ hull_of_entries self.now.side.held.hull self.now.side.seen.pending }
-    {
-        match self.pending.first() {
-            None => self.hull,
-            Some(entry) => join_hull(self.hull, entry.offset, self.pending.max_goal(1 << 63)),
-        }
-    }
-
     fn let_go(&mut self)
         requires none_left { self.old.left ≡ [] }
         ensures { self.new ≡ let_go_state self.old }
     {
-        lose_lines(&mut self.history, self.reach);
         self.given_up.status = NFS3ERR_IO;
-        self.given_up.entries = mem::replace(&mut self.pending, M::new(self.alloc));
+        self.given_up.entries = self.seen.take_pending(self.alloc);
         self.given_up.waiting = mem::replace(&mut self.waiting, Waiting::new(self.alloc));
         self.given_up.jobs.clear();
-        self.memory = 0;
     }
 
     #[tactic(auto, unfolding(gw_model::specs::Sides::side_give_up_step))]
@@ -49,7 +35,7 @@ impl<M: PendingMap> Admit<M> {
         requires none_left { self.old.left ≡ [] }
         ensures { self.new ≡ left_state (side_give_up_step moment self.old.side) self.old }
     {
-        let hull = self.lost_hull();
+        let hull = self.seen.lost_hull(self.hull);
         self.let_go();
         self.hull = hull;
         self.used = moment;
@@ -70,19 +56,18 @@ impl<M: PendingMap> Admit<M> {
         requires none_left { self.old.left ≡ [] }
         ensures { self.new ≡ left_state (side_stale_step (cause_of cause) self.old.side) self.old }
     {
-        lose_lines(&mut self.history, self.reach);
         self.given_up.status = NFS3ERR_IO;
-        self.given_up.entries = mem::replace(&mut self.pending, M::new(self.alloc));
+        self.given_up.entries = self.seen.take_pending(self.alloc);
         self.given_up.waiting = mem::replace(&mut self.waiting, Waiting::new(self.alloc));
-        self.memory = 0;
-        strike_ready(&mut self.queue, &mut self.given_up.jobs, &mut self.history);
+        strike(&mut self.queue, &mut self.given_up.jobs);
+        self.seen.lose_jobs(&self.given_up.jobs);
         self.phase = Phase::Stale(cause);
     }
 
     fn join_to_top(&mut self, low: u64)
         ensures { self.new ≡ record self.old { side = side_with_hull_to_top low self.old.side } }
     {
-        self.hull = join_hull(self.hull, low, self.top);
+        self.hull = join_hull(self.hull, low, self.seen.top());
     }
 
     // Gives whether the file turned stale.

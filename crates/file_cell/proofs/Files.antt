@@ -1,22 +1,22 @@
 -- What a call means for the file that a cell stands for.
-use Rattle.std.proofs.Common.{◌≡◌, ℕ, ◌+◌, ◌<◌, ◌≤◌, Bool, true, false, nat_lt, Option, None, List, [], ◌∷◌, ◌++◌, length, take, drop, refl, sym, ◌∙◌, ap, subst, append-nil, arith}
+use Rattle.std.proofs.Common.{◌≡◌, ℕ, ◌+◌, ◌<◌, ◌≤◌, Bool, true, false, nat_lt, None, List, [], ◌∷◌, ◌++◌, length, take, drop, refl, sym, ◌∙◌, ap, subst, append-nil, arith}
 use Rattle.std.proofs.lemmas.List.{length-take, take_min}
 use Rattle.std.proofs.Math.Seq.{take-length}
 use Rattle.gw_model.specs.Order.{fold, joined_bytes}
 use Rattle.gw_model.specs.Ahead.{Outcomes, CallResult, Good, Bad}
 use Rattle.gw_model.specs.File as model
-use Rattle.gw_model.specs.File.{Failure, File, Side, Step, Writer, content}
-use Rattle.gw_model.specs.Admission.{silent_step, pump_step, pump_step_with, read_step, write_step}
-use Rattle.gw_model.specs.Sides.{IsSideOf, SideStep, side_turn_step}
-use Rattle.gw_model.specs.Sound.{IsIssued, IsStored, pieces_of}
+use Rattle.gw_model.specs.File.{File, Side, Step, Writer, content}
+use Rattle.gw_model.specs.Admission.{silent_step, pump_step, pump_step_with}
+use Rattle.gw_model.specs.Sides.{IsSideOf, side_turn_step}
+use Rattle.gw_model.specs.Sound.{IsSoundFile, pieces_of}
 use Rattle.gw_model.specs.Views.{TraceState}
 use Rattle.gw_model.specs.Writer.{job_step, writer_step, turn_step, turn_step_if, turn_step_in, turn_result}
 use Rattle.gw_model.specs.Bounds.{max_waiting}
-use Rattle.gw_model.proofs.Below.{open_below, pump_below, read_below, turn_adds, turn_below, turn_reads, write_below}
+use Rattle.gw_model.proofs.Below.{turn_adds, turn_reads}
 use Rattle.gw_model.proofs.Contents.{open_content, pump_content, read_content, write_content}
 use Rattle.gw_model.proofs.Givings.{open_stands}
-use Rattle.gw_model.proofs.Keeping.{opened_issues, pump_issues, read_issues, turn_issues, write_issues}
-use Rattle.gw_model.proofs.Storing.{next_put_appends, open_stores, pump_same, read_same, same_stores, turn_stores, write_same}
+use Rattle.gw_model.proofs.Sound.{open_sound, pump_sound, read_sound, turn_sound, write_sound}
+use Rattle.gw_model.proofs.Storing.{next_put_appends, pump_same, read_same, write_same}
 use Rattle.gw_model.proofs.Turning.{turn_leads}
 use Rattle.job_line.specs.declared.items.Job.{Job}
 use Rattle.job_line.specs.declared.items.Job.TheVariants.{Put, Compare, Fetch, Settle}
@@ -27,8 +27,6 @@ use Rattle.admit.specs.declared.request.Verdict.{Verdict}
 use Rattle.admit.specs.declared.request.WriteReq.{WriteReq}
 use Rattle.admit.specs.declared.request.ReadReq.{ReadReq}
 use Rattle.admit.specs.declared.request.News.{News}
-use Rattle.tickets.specs.Answers.{answers_of}
-use Rattle.writeback.specs.State.{FileSeen, WriterSeen}
 use Rattle.writeback.specs.Steps.{IsNextPut, Reads, Works, appended_bytes, with_calls_ahead, is_want, past_refusal_if, put_bytes}
 use Rattle.file_cell.specs.State.{AdmitSideState, CellState, WriterSideState, cell_of}
 use Rattle.file_cell.specs.Steps.{cell_writer}
@@ -43,17 +41,14 @@ writes v r a b w old is base on = subst (λ (c : CellState). CellWrites v c r (c
     go : CellWrites v (cell_of a w) r (cell_of b w)
     go f t h e =
         let follows = on f t h.side e in
-        let step = write_step a.admit.limits f (write_request r) t in
         let same = write_same a.admit.limits f (write_request r) t in
         record {
           stands = record {
             side = follows.stands;
             writer = h.writer ∙ sym same.writer;
             base = base ∙ h.base ∙ sym (ap length same.base);
-            issued = write_issues a.admit.limits f (write_request r) t h.issued;
-            stored = same_stores f step.file same h.stored;
-            below = write_below a.admit.limits f (write_request r) t h.issued h.below;
-            content = h.content ∙ sym (write_content a.admit.limits f (write_request r) t h.below);
+            sound = write_sound a.admit.limits f (write_request r) t h.sound;
+            content = h.content ∙ sym (write_content a.admit.limits f (write_request r) t h.sound.below);
           };
           answers = follows.answers;
           uses = follows.uses;
@@ -66,17 +61,14 @@ fetches v r a b w old is base on = subst (λ (c : CellState). CellFetches v c r 
     go : CellFetches v (cell_of a w) r (cell_of b w)
     go f t h e =
         let follows = on f t h.side e in
-        let step = read_step a.admit.limits f (read_request r) t in
         let same = read_same a.admit.limits f (read_request r) t in
         record {
           stands = record {
             side = follows.stands;
             writer = h.writer ∙ sym same.writer;
             base = base ∙ h.base ∙ sym (ap length same.base);
-            issued = read_issues a.admit.limits f (read_request r) t h.issued;
-            stored = same_stores f step.file same h.stored;
-            below = read_below a.admit.limits f (read_request r) t h.below;
-            content = h.content ∙ sym (read_content a.admit.limits f (read_request r) t h.below);
+            sound = read_sound a.admit.limits f (read_request r) t h.sound;
+            content = h.content ∙ sym (read_content a.admit.limits f (read_request r) t h.sound.below);
           };
           answers = follows.answers;
           uses = follows.uses;
@@ -90,11 +82,11 @@ unfolding turn_step
 turn_is f u j js free line = ap (λ b. turn_step_if b f u) free ∙ ap (λ ls. turn_step_in ls f u) line
 
 -- where the bytes of the first job begin, as its writer has it
-starts : (f : File) (j : Job) (start : ℕ) (js : List model.Job) → IsIssued f → IsStored f → f.held.line ≡ job_of start None j ∷ js → (m : ℕ) × IsNextPut f.writer m × (job_of m None j ≡ job_of start None j)
-starts f (Put number bytes level count ticket) start js issued stored line = (start, λ works. (next_put_appends f number start bytes count level None (ticket_number ticket) js issued stored works line).0, refl)
-starts f (Compare offset bytes level ticket) start js issued stored line = (f.writer.stored, λ works. refl, refl)
-starts f (Fetch offset count ticket) start js issued stored line = (f.writer.stored, λ works. refl, refl)
-starts f (Settle ticket) start js issued stored line = (f.writer.stored, λ works. refl, refl)
+starts : (f : File) (j : Job) (start : ℕ) (js : List model.Job) → IsSoundFile f → f.held.line ≡ job_of start None j ∷ js → (m : ℕ) × IsNextPut f.writer m × (job_of m None j ≡ job_of start None j)
+starts f (Put number bytes level count ticket) start js sound line = (start, λ works. (next_put_appends f number start bytes count level None (ticket_number ticket) js sound.issued sound.stored works line).0, refl)
+starts f (Compare offset bytes level ticket) start js sound line = (f.writer.stored, λ works. refl, refl)
+starts f (Fetch offset count ticket) start js sound line = (f.writer.stored, λ works. refl, refl)
+starts f (Settle ticket) start js sound line = (f.writer.stored, λ works. refl, refl)
 
 -- the content is just what it has
 reads_own : (tells : Type 0) (j : Job) (w : Writer) (bytes : List ℕ) → tells → Reads tells j w bytes bytes
@@ -124,10 +116,10 @@ turn_stands tells old new noted noted' job start low first x moved base told_by 
     let bytes = old.file.content in
     let rest = past_refusal_if (is_want new.left) t in
     let line : f.held.line ≡ j ∷ js = ap (λ (s : Side). s.held.line) (sym h.side.is) ∙ first in
-    let at = starts f job start js h.issued h.stored line in
+    let at = starts f job start js h.sound line in
     let next = subst (λ (w : Writer). IsNextPut w at.0) (sym h.writer) at.1 in
     let did : job_step j (fold f.base f.accepted) f.writer u ≡ writer_step new.writer new.left rest =
-    sym (turn_reads f j js u h.stored h.below line)
+    sym (turn_reads f j js u h.sound.stored h.sound.below line)
     ∙ ap (λ bs. job_step j bs f.writer u) (sym h.content)
     ∙ ap (λ k. job_step k bytes f.writer u) (sym at.2)
     ∙ ap (λ (w : Writer). job_step (job_of at.0 None job) bytes w u) (sym h.writer)
@@ -139,7 +131,7 @@ turn_stands tells old new noted noted' job start low first x moved base told_by 
     let put = put_bytes x.calls job in
     let more : (turn_step f u).file.writer.stored ≡ f.writer.stored + length put = ap (λ (s : Step). s.file.writer.stored) is ∙ x.stored ∙ ap (λ (w : Writer). w.stored + length put) h.writer in
     let added : content (turn_step f u).file ≡ content f ++ put =
-    turn_adds f u (length put) h.issued h.stored more
+    turn_adds f u (length put) h.sound.issued h.sound.stored more
     ∙ ap (λ ks. content f ++ take (length put) (joined_bytes (pieces_of (take 1 ks)))) line
     ∙ ap (λ bs. content f ++ bs) (put_front x.calls job start) in
     record {
@@ -147,9 +139,7 @@ turn_stands tells old new noted noted' job start low first x moved base told_by 
         side = subst (λ (s : Side). IsSideOf s (turn_step f u).file) (sym side) (turn_leads old.side f u h.side);
         writer = sym (ap (λ (s : Step). s.file.writer) is);
         base = base ∙ h.base ∙ sym (ap (λ (s : Step). length s.file.base) is);
-        issued = turn_issues f u h.issued;
-        stored = turn_stores f u h.issued h.stored;
-        below = turn_below f u h.issued h.stored h.below;
+        sound = turn_sound f u h.sound;
         content = x.file.content told_by ∙ ap (λ bs. bs ++ put) h.content ∙ sym added;
       };
       answers = ap (λ (s : Step). s.answers) is;
@@ -180,9 +170,7 @@ open_law c base hull moment many side writer file = record {
   side = subst (λ (s : Side). IsSideOf s (model.opened_file base hull moment)) (sym side) (open_stands base hull moment);
   writer = writer;
   base = many;
-  issued = opened_issues base hull moment;
-  stored = open_stores base hull moment;
-  below = open_below base hull moment;
+  sound = open_sound base hull moment;
   content = file ∙ sym (open_content base hull moment);
 }
 
@@ -202,10 +190,8 @@ pumps news a b w old is none heard base on = subst (λ (c : CellState). CellPump
             side = leads.0;
             writer = h.writer ∙ sym same.writer;
             base = base ∙ h.base ∙ sym (ap length same.base);
-            issued = pump_issues a.admit.limits f.writer.failed f t h.issued;
-            stored = same_stores f (pump_step_with a.admit.limits f.writer.failed f t).file same h.stored;
-            below = pump_below a.admit.limits f.writer.failed f t h.below;
-            content = h.content ∙ sym (pump_content a.admit.limits f.writer.failed f t h.below);
+            sound = pump_sound a.admit.limits f.writer.failed f t h.sound;
+            content = h.content ∙ sym (pump_content a.admit.limits f.writer.failed f t h.sound.below);
           };
           answers = leads.1 ∙ ap (λ xs. xs ++ b.admit.left) (sym (writer_none a w old is none));
           ahead = leads.2;

@@ -6,7 +6,7 @@ use Rattle.admit.specs.Jobs.{ready_job}
 use Rattle.admit.specs.Queue.{ready_jobs}
 use Rattle.admit.specs.Parts.{all_waiting}
 use Rattle.admit.proofs.CommitGoals.{some_ready, none_ready}
-use Rattle.admit.proofs.accept.settle_reached.Goals as goal
+use Rattle.admit.proofs.commits.settle_reached.Goals as goal
 
 pub loop-ticket-preserved : goal.loop-ticket-preserved
 loop-ticket-preserved c =

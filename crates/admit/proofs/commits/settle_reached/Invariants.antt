@@ -4,7 +4,7 @@ use Rattle.gw_model.specs.Admission.{settles_at, waiting_above}
 use Rattle.admit.specs.Line.{end_after}
 use Rattle.admit.specs.Queue.{ready_jobs}
 use Rattle.admit.specs.Parts.{all_waiting}
-use Rattle.admit.proofs.accept.settle_reached.Given as goal
+use Rattle.admit.proofs.commits.settle_reached.Given as goal
 
 abbrev pub invariant-loop-ticket : goal.invariant-loop-ticket
 invariant-loop-ticket l = record {
