@@ -1,6 +1,5 @@
 pub mod Answers
 pub mod Links
-pub mod HeardPieces
 pub mod MessageReplies
 pub mod Sessions
 mod Rows

@@ -1,18 +1,18 @@
 -- How parts of a link are put behind one another.
-use Rattle.std.proofs.Common.{◌≡◌, ℕ, ◌+◌, ◌<◌, ◌≤◌, Bool, true, false, Option, List, [], ◌∷◌, ◌++◌, length, take, drop, refl, sym, ◌∙◌, ap, subst, append_assoc, append-nil, length-append, arith}
+use Rattle.std.proofs.Common.{◌≡◌, ℕ, Bool, true, false, Option, List, [], ◌∷◌, ◌++◌, take, drop, refl, sym, ◌∙◌, ap, subst, append_assoc, append-nil}
 use Rattle.std.specs.Io.KnownBytes.{Appends}
 use Rattle.std.proofs.KnownBytes.{Appends-nil, Appends-trans}
 use Rattle.std.proofs.lemmas.List.{take-append-drop}
 use Rattle.gw_outside.specs.Writing.{IsPrefix}
 use Rattle.rpc_record.specs.declared.fault.FrameFault.{FrameFault}
 use Rattle.rpc_record.specs.Records.{Open, Fault, Whole, front}
-use Rattle.rpc_record.proofs.Fronts.{front_empty, whole_more, fault_more, whole_shrinks}
+use Rattle.rpc_record.proofs.Fronts.{front_empty, whole_more, fault_more}
 use Rattle.portmap.specs.declared.ports.Mapping.{Mapping}
 use Rattle.portmap.specs.declared.session.MessageEnd.TheVariants as message_end
 use Rattle.portmap.specs.declared.session.PieceEnd.TheVariants as piece_end
-use Rattle.portmap.specs.Answers.{MessageResult, NoCall, Replied, message_result, Answers, silent, reply_record, behind_text, answers}
-use Rattle.portmap.specs.Links.{LinkState, Leads, Stops, BreaksOff, IsMessageServed, IsPieceServed}
-use Rattle.portmap.specs.Sessions.{AreAnswered, AreAnsweredInPart}
+use Rattle.portmap.specs.Answers.{NoCall, Replied, message_result, Answers, reply_record, behind_text, answers}
+use Rattle.portmap.specs.Links.{LinkState, Leads, ClosesLink, BreaksOff, IsMessageAnswered, IsPieceAnswered}
+use Rattle.portmap.specs.Sessions.{AreAnsweredInPart}
 use Rattle.portmap.proofs.Answers.{answers_open, answers_fault, answers_no_call, answers_replied}
 
 abbrev pub answered : List ℕ → List Mapping → Bool → Answers
@@ -56,8 +56,8 @@ module _ (client : ℕ) where
       all = λ later more. first_part r' c later more ∙ ap (behind_text t) (k.all later more) ∙ behind_twice t u (answers later client to.table (to.held ++ more));
     }
 
-    pub stops_after : (r' : List Bool) (c u : List ℕ) (table : List Mapping) → Stops client r' m c u table → Stops client (r ++ r') f (b ++ c) (t ++ u) table
-    stops_after r' c u table k = record { all = λ later more. first_part r' c later more ∙ ap (behind_text t) (k.all later more) }
+    pub closes_after : (r' : List Bool) (c u : List ℕ) (table : List Mapping) → ClosesLink client r' m c u table → ClosesLink client (r ++ r') f (b ++ c) (t ++ u) table
+    closes_after r' c u table k = record { all = λ later more. first_part r' c later more ∙ ap (behind_text t) (k.all later more) }
 
     pub breaks_after : (r' : List Bool) (c u : List ℕ) (table : List Mapping) → BreaksOff client r' m c u table → BreaksOff client (r ++ r') f (b ++ c) (t ++ u) table
     breaks_after r' c u table k = record {
@@ -76,8 +76,8 @@ module _ (client : ℕ) where
     here = record { held = held; table = table }
 
     -- a header is at fault
-    stops_fault : (fault : FrameFault) → front (held ++ b) ≡ Fault fault → Stops client [] here b [] table
-    stops_fault fault broken = record {
+    closes_fault : (fault : FrameFault) → front (held ++ b) ≡ Fault fault → ClosesLink client [] here b [] table
+    closes_fault fault broken = record {
       all = λ later more. answers_fault later client table (held ++ (b ++ more)) fault
           (ap front (sym (append_assoc held b more)) ∙ fault_more (held ++ b) more fault broken);
     }
@@ -86,8 +86,8 @@ module _ (client : ℕ) where
       whole_behind : (more : List ℕ) → front (held ++ (b ++ more)) ≡ Whole message more
       whole_behind more = ap front (sym (append_assoc held b more)) ∙ whole_more (held ++ b) more message [] whole
 
-      stops_no_call : message_result refused client table message ≡ NoCall → Stops client (refused ∷ []) here b [] table
-      stops_no_call none = record {
+      closes_no_call : message_result refused client table message ≡ NoCall → ClosesLink client (refused ∷ []) here b [] table
+      closes_no_call none = record {
         all = λ later more. answers_no_call (refused ∷ later) client table (held ++ (b ++ more)) message more (whole_behind more) none;
       }
 
@@ -97,8 +97,8 @@ module _ (client : ℕ) where
         all = λ later more. answers_replied (refused ∷ later) client table (held ++ (b ++ more)) message more (whole_behind more) reply after is;
       }
 
-  stops_more : (r : List Bool) (f : LinkState) (b t : List ℕ) (table : List Mapping) → Stops client r f b t table → (c : List ℕ) → Stops client r f (b ++ c) t table
-  stops_more r f b t table s c = record {
+  closes_more : (r : List Bool) (f : LinkState) (b t : List ℕ) (table : List Mapping) → ClosesLink client r f b t table → (c : List ℕ) → ClosesLink client r f (b ++ c) t table
+  closes_more r f b t table s c = record {
     all = λ later more. ap (λ (x : List ℕ). answers (r ++ later) client f.table (f.held ++ x)) (append_assoc b c more) ∙ s.all later (c ++ more);
   }
 
@@ -116,19 +116,19 @@ serves_start client s piece held = record { refused = []; bytes = []; text = [];
 
 module _ (client : ℕ) (from : LinkState) (piece rest : List ℕ) (now : LinkState) (held mid : Option (List ℕ)) (s : Serves client from piece rest now held mid) where
   -- the rest completes nothing
-  pub serves_more : (new : List ℕ) → new ≡ now.held ++ rest → IsPieceServed piece_end.Goes client from piece (record { held = new; table = now.table }) held mid
+  pub serves_more : (new : List ℕ) → new ≡ now.held ++ rest → IsPieceAnswered piece_end.Goes client from piece (record { held = new; table = now.table }) held mid
   serves_more new is =
       let all = leads_more client s.refused from now s.bytes s.text s.leads rest in
       rw (s.split, is) (record { refused = s.refused; text = s.text; writes = s.writes; ends = all })
 
   -- a header is at fault
-  pub serves_fault : (fault : FrameFault) (new : List ℕ) → front (now.held ++ rest) ≡ Fault fault → IsPieceServed piece_end.Closed client from piece (record { held = new; table = now.table }) held mid
+  pub serves_fault : (fault : FrameFault) (new : List ℕ) → front (now.held ++ rest) ≡ Fault fault → IsPieceAnswered piece_end.Closed client from piece (record { held = new; table = now.table }) held mid
   serves_fault fault new broken =
-      let all = stops_after client s.refused from now s.bytes s.text s.leads [] rest [] now.table (stops_fault client now.held now.table rest fault broken) in
+      let all = closes_after client s.refused from now s.bytes s.text s.leads [] rest [] now.table (closes_fault client now.held now.table rest fault broken) in
       rw s.split (record { refused = s.refused ++ []; text = s.text ++ []; writes = Appends-trans held mid mid s.text [] s.writes (Appends-nil mid); ends = all })
 
   -- memory was refused for the rest
-  pub serves_memory : (new : List ℕ) → front now.held ≡ Open → IsPieceServed piece_end.Memory client from piece (record { held = new; table = now.table }) held mid
+  pub serves_memory : (new : List ℕ) → front now.held ≡ Open → IsPieceAnswered piece_end.Memory client from piece (record { held = new; table = now.table }) held mid
   serves_memory new rests =
       record {
         refused = s.refused;
@@ -142,7 +142,7 @@ module _ (client : ℕ) (from : LinkState) (piece rest : List ℕ) (now : LinkSt
     parted = s.split ∙ ap (λ (x : List ℕ). s.bytes ++ x) (sym (take-append-drop taken rest)) ∙ sym (append_assoc s.bytes (take taken rest) (drop taken rest))
 
     -- the record was answered, and the rest goes on
-    pub serves_next : IsMessageServed message_end.Goes client now.table message table mid held' → Serves client from piece (drop taken rest) (record { held = []; table = table }) held held'
+    pub serves_next : IsMessageAnswered message_end.Goes client now.table message table mid held' → Serves client from piece (drop taken rest) (record { held = []; table = table }) held held'
     serves_next m =
         let step = leads_reply client now.held now.table (take taken rest) message whole m.refused m.ends.0 table m.ends.1 in
         record {
@@ -155,10 +155,10 @@ module _ (client : ℕ) (from : LinkState) (piece rest : List ℕ) (now : LinkSt
         }
 
     -- the record is no call
-    pub serves_no_call : (new : List ℕ) → IsMessageServed message_end.Closes client now.table message table mid held' → IsPieceServed piece_end.Closed client from piece (record { held = new; table = table }) held held'
+    pub serves_no_call : (new : List ℕ) → IsMessageAnswered message_end.Closes client now.table message table mid held' → IsPieceAnswered piece_end.Closed client from piece (record { held = new; table = table }) held held'
     serves_no_call new m =
-        let stop = stops_no_call client now.held now.table (take taken rest) message whole m.refused m.ends.0 in
-        let all = stops_more client _ from _ _ now.table (stops_after client s.refused from now s.bytes s.text s.leads (m.refused ∷ []) (take taken rest) [] now.table stop) (drop taken rest) in
+        let stop = closes_no_call client now.held now.table (take taken rest) message whole m.refused m.ends.0 in
+        let all = closes_more client _ from _ _ now.table (closes_after client s.refused from now s.bytes s.text s.leads (m.refused ∷ []) (take taken rest) [] now.table stop) (drop taken rest) in
         rw (parted, m.ends.2)
         (record {
           refused = s.refused ++ (m.refused ∷ []);
@@ -168,8 +168,8 @@ module _ (client : ℕ) (from : LinkState) (piece rest : List ℕ) (now : LinkSt
         })
 
     -- its reply was written in part
-    pub serves_fault_in_write : IsMessageServed message_end.WriteFault client now.table message table mid held'
-        → (new : List ℕ) → IsPieceServed piece_end.WriteFault client from piece (record { held = new; table = table }) held held'
+    pub serves_fault_in_write : IsMessageAnswered message_end.WriteFault client now.table message table mid held'
+        → (new : List ℕ) → IsPieceAnswered piece_end.WriteFault client from piece (record { held = new; table = table }) held held'
     serves_fault_in_write m new =
         let after : LinkState = record { held = []; table = table } in
         let step = leads_reply client now.held now.table (take taken rest) message whole m.refused m.ends.0 table m.ends.1 in
@@ -190,18 +190,6 @@ module _ (client : ℕ) (from : LinkState) (piece rest : List ℕ) (now : LinkSt
           };
         }
 
--- each record takes bytes away
-pub less_left : (held rest message : List ℕ) (taken : ℕ) → taken ≤ length rest → front (held ++ take taken rest) ≡ Whole message []
-    → (new left : List ℕ) → new ≡ [] → left ≡ drop taken rest → length new + length left < length held + length rest
-less_left held rest message taken within whole new left none is =
-    let shorter = whole_shrinks (held ++ take taken rest) message [] whole in
-    let both = length-append held (take taken rest) in
-    let parts = length-append (take taken rest) (drop taken rest) in
-    let same = ap length (take-append-drop taken rest) in
-    let empty = ap length none in
-    let rest_of = ap length is in
-    omega (arith, shorter, both, parts, same, empty, rest_of)
-
 -- all bytes of a link
 module _ (client : ℕ) (refused : List Bool) (old : List Mapping) where
   abbrev start : LinkState
@@ -219,8 +207,8 @@ module _ (client : ℕ) (refused : List Bool) (old : List Mapping) where
       ∙ ap (behind_text text) (answers_open [] client to.table to.held rests)
       ∙ ap (λ (x : List ℕ). answered x to.table false) (append-nil text)
 
-  pub stops_end : (bytes text : List ℕ) (table : List Mapping) → Stops client refused start bytes text table → answers refused client old bytes ≡ answered text table true
-  stops_end bytes text table s = ap (answers refused client old) (sym (append-nil bytes)) ∙ none_later bytes [] ∙ s.all [] []
+  pub closes_end : (bytes text : List ℕ) (table : List Mapping) → ClosesLink client refused start bytes text table → answers refused client old bytes ≡ answered text table true
+  closes_end bytes text table s = ap (answers refused client old) (sym (append-nil bytes)) ∙ none_later bytes [] ∙ s.all [] []
 
   pub breaks_end : (bytes text : List ℕ) (table : List Mapping) → BreaksOff client refused start bytes text table → AreAnsweredInPart refused client old bytes text table
   breaks_end bytes text table b =

@@ -4,14 +4,16 @@ use Rattle.std.proofs.Math.Bool.{or-false}
 use Rattle.std.proofs.lemmas.Bool.{le-ltb}
 use Rattle.std.specs.Io.KnownBytes.{Appends, Consumes, Keeps}
 use Rattle.std.proofs.KnownBytes.{Appends-nil, Appends-trans, Consumes-nil, Consumes-trans, Consumes-kept}
+use Rattle.gw_outside.specs.Writing.{IsPrefix}
 use Rattle.rpc_record.specs.Records.{Open, front}
+use Rattle.rpc_record.proofs.Fronts.{front_empty}
 use Rattle.portmap.specs.declared.ports.Mapping.{Mapping}
 use Rattle.portmap.specs.declared.session.PieceEnd.TheVariants as piece_end
 use Rattle.portmap.specs.declared.session.PortEnd.TheVariants as port_end
 use Rattle.portmap.specs.Answers.{Answers, answers}
-use Rattle.portmap.specs.Links.{LinkState, Leads, IsPieceServed}
-use Rattle.portmap.specs.Sessions.{most_bytes, AreAnswered, IsSession}
-use Rattle.portmap.proofs.Links.{answered, leads_none, leads_trans, stops_after, breaks_after, leads_end, stops_end, breaks_end}
+use Rattle.portmap.specs.Links.{LinkState, Leads, BreaksOff, IsPieceAnswered}
+use Rattle.portmap.specs.Sessions.{AreAnswered, IsSession}
+use Rattle.portmap.proofs.Links.{answered, leads_none, leads_trans, closes_after, breaks_after, leads_end, closes_end, breaks_end}
 
 -- what passed so far, where `left` more bytes may be read
 pub record Running (client : ℕ) (old : List Mapping) (now : LinkState) (left : ℕ) (i i' o o' : Option (List ℕ)) : Type 0 where
@@ -26,6 +28,15 @@ pub record Running (client : ℕ) (old : List Mapping) (now : LinkState) (left :
 pub running_start : (client : ℕ) (old : List Mapping) (i o : Option (List ℕ)) → Running client old (record { held = []; table = old }) 4294967296 i i o o
 running_start client old i o =
     record { taken = []; written = []; refused = []; leads = leads_none client (record { held = []; table = old }); reads = Consumes-nil i; writes = Appends-nil o; count = refl }
+
+-- memory was refused for the stream
+pub session_unbegun : (client : ℕ) (old : List Mapping) (i o : Option (List ℕ)) → IsSession port_end.Memory client old old i i o o
+session_unbegun client old i o =
+    let start : LinkState = record { held = []; table = old } in
+    let part : IsPrefix [] [] = ([], refl) in
+    let none : BreaksOff client [] start [] [] old =
+    record { served = []; whole = []; to = start; front_of = part; leads = leads_none client start; at_rest = front_empty; part = part; table_is = refl } in
+    record { taken = []; written = []; refused = []; reads = Consumes-nil i; writes = Appends-nil o; ends = breaks_end client [] old [] [] old none }
 
 -- a read of some bytes isn't the end
 pub still_open : (before : Bool) (n : ℕ) → 0 < n → (before || (nat_lt n 1 && nat_lt 0 1)) ≡ before
@@ -78,7 +89,7 @@ module _ (client : ℕ) (old : List Mapping) (now : LinkState) (left : ℕ) (i i
     counted : length (s.taken ++ piece) ≡ length s.taken + length piece
     counted = length-append s.taken piece
 
-    pub runs_on : IsPieceServed piece_end.Goes client now piece new o' o'' → Running client old new (left - n) i i'' o o''
+    pub runs_on : IsPieceAnswered piece_end.Goes client now piece new o' o'' → Running client old new (left - n) i i'' o o''
     runs_on p =
         let more : length s.taken + left ≡ 2 ^ 32 = s.count in
         let both = counted in
@@ -92,21 +103,21 @@ module _ (client : ℕ) (old : List Mapping) (now : LinkState) (left : ℕ) (i i
           count = omega (arith, both);
         }
 
-    pub session_closed : IsPieceServed piece_end.Closed client now piece new o' o'' → IsSession port_end.Closed client old new.table i i'' o o''
+    pub session_closed : IsPieceAnswered piece_end.Closed client now piece new o' o'' → IsSession port_end.Closed client old new.table i i'' o o''
     session_closed p =
         let more : length s.taken + left ≡ 2 ^ 32 = s.count in
         let both = counted in
-        let stop = stops_after client s.refused _ now s.taken s.written s.leads p.refused piece p.text new.table p.ends in
+        let stop = closes_after client s.refused _ now s.taken s.written s.leads p.refused piece p.text new.table p.ends in
         record {
           taken = s.taken ++ piece;
           written = s.written ++ p.text;
           refused = s.refused ++ p.refused;
           reads = all_taken;
           writes = Appends-trans o o' o'' s.written p.text s.writes p.writes;
-          ends = (are_answered _ true _ new.table (stops_end client (s.refused ++ p.refused) old (s.taken ++ piece) (s.written ++ p.text) new.table stop), omega (arith, both));
+          ends = (are_answered _ true _ new.table (closes_end client (s.refused ++ p.refused) old (s.taken ++ piece) (s.written ++ p.text) new.table stop), omega (arith, both));
         }
 
-    pub session_write_fault : IsPieceServed piece_end.WriteFault client now piece new o' o'' → IsSession port_end.WriteFault client old new.table i i'' o o''
+    pub session_write_fault : IsPieceAnswered piece_end.WriteFault client now piece new o' o'' → IsSession port_end.WriteFault client old new.table i i'' o o''
     session_write_fault p = record {
       taken = s.taken ++ piece;
       written = s.written ++ p.text;
@@ -117,7 +128,7 @@ module _ (client : ℕ) (old : List Mapping) (now : LinkState) (left : ℕ) (i i
           (breaks_after client s.refused _ now s.taken s.written s.leads p.refused piece p.text new.table p.ends);
     }
 
-    pub session_memory : IsPieceServed piece_end.Memory client now piece new o' o'' → IsSession port_end.Memory client old new.table i i'' o o''
+    pub session_memory : IsPieceAnswered piece_end.Memory client now piece new o' o'' → IsSession port_end.Memory client old new.table i i'' o o''
     session_memory p = record {
       taken = s.taken ++ piece;
       written = s.written ++ p.text;

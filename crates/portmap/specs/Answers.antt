@@ -58,9 +58,9 @@ answers_then table NoCall later = silent table true
 answers_then table (Replied reply after) later = behind_text (reply_record reply) (later after)
 
 -- for each message in order, whether memory is refused for it: for none, where the list ends
-abbrev pub is_refused : List Bool → Bool
-is_refused [] = false
-is_refused (refused ∷ later) = refused
+abbrev pub is_next_refused : List Bool → Bool
+is_next_refused [] = false
+is_next_refused (refused ∷ later) = refused
 
 abbrev pub later_refused : List Bool → List Bool
 later_refused [] = []
@@ -69,7 +69,7 @@ later_refused (refused ∷ later) = later
 unfoldable pub answers_from : List Bool → ℕ → List Mapping → List (List ℕ) → End → Answers
 answers_from refused client table [] end = answers_at_end table end
 answers_from refused client table (message ∷ messages) end =
-    answers_then table (message_result (is_refused refused) client table message) (λ after. answers_from (later_refused refused) client after messages end)
+    answers_then table (message_result (is_next_refused refused) client table message) (λ after. answers_from (later_refused refused) client after messages end)
 
 -- the bytes of a link with a client
 unfoldable pub answers : List Bool → ℕ → List Mapping → List ℕ → Answers

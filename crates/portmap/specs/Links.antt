@@ -1,36 +1,20 @@
 -- How the bytes of a link are answered in parts: piece by piece, and message by message.
-use Rattle.std.specs.Prelude.{◌≡◌, ◌≤◌, ℕ, Bool, true, false, List, [], ◌∷◌, ◌++◌, length, take, Option, None, Result, Ok, Err}
+use Rattle.std.specs.Prelude.{◌≡◌, ℕ, Bool, true, false, List, [], ◌++◌, Option, Result}
 use Rattle.std.specs.Io.KnownBytes.{Appends}
 use Rattle.gw_outside.specs.Writing.{IsPrefix, AppendsPrefix}
-use Rattle.rpc_record.specs.declared.fault.FrameFault.{FrameFault}
-use Rattle.rpc_record.specs.Records.{Open, Fault, Whole, front}
-use Rattle.rpc_record.specs.Assembly.{Assembly}
+use Rattle.rpc_record.specs.Records.{Open, front}
 use Rattle.rpc_msg.specs.declared.fault.CallFault.{CallFault}
 use Rattle.rpc_msg.specs.Numbers.{system_error}
 use Rattle.rpc_msg.specs.Calls.{CallText}
 use Rattle.rpc_msg.specs.Replies.{accepted_text}
 use Rattle.portmap.specs.declared.ports.Mapping.{Mapping}
-use Rattle.portmap.specs.declared.heard.Heard.{Heard}
-use Rattle.portmap.specs.declared.heard.Heard.TheVariants as heard
 use Rattle.portmap.specs.declared.message.MessageReply.{MessageReply}
 use Rattle.portmap.specs.declared.message.MessageReply.TheVariants as said
 use Rattle.portmap.specs.declared.session.MessageEnd.{MessageEnd}
 use Rattle.portmap.specs.declared.session.MessageEnd.TheVariants as message_end
 use Rattle.portmap.specs.declared.session.PieceEnd.{PieceEnd}
 use Rattle.portmap.specs.declared.session.PieceEnd.TheVariants as piece_end
-use Rattle.portmap.specs.Answers.{MessageResult, NoCall, Replied, message_result_by, message_result, Answers, reply_record, behind_text, answers}
-
--- no record is ready, no header was at fault, and what is held is no whole record
-abbrev pub IsAtRest : Assembly → Type 0
-IsAtRest a = (a.ready ≡ None) × (a.fault ≡ None) × (front a.held ≡ Open)
-
--- All of the piece was taken, or what completes a record; or a header is at fault; or memory was refused.
-abbrev pub IsHeard : Heard → Assembly → List ℕ → Assembly → Type 0
-IsHeard heard.More old piece new = IsAtRest new × (new.held ≡ old.held ++ piece)
-IsHeard (heard.Record taken message) old piece new =
-    IsAtRest new × (new.held ≡ []) × (taken ≤ length piece) × (front (old.held ++ take taken piece) ≡ Whole message [])
-IsHeard heard.Broken old piece new = (fault : FrameFault) × (front (old.held ++ piece) ≡ Fault fault)
-IsHeard heard.NoMemory old piece new = new ≡ old
+use Rattle.portmap.specs.Answers.{MessageResult, NoCall, Replied, message_result_by, message_result, reply_record, behind_text, answers}
 
 -- The record of a message's reply and the table after it, or want of memory, which leaves the table.
 abbrev pub IsMessageReply : MessageReply → ℕ → List Mapping → Result CallText CallFault → List Mapping → Type 0
@@ -58,7 +42,7 @@ IsMessageEnd message_end.Goes result old text new = (reply : List ℕ) × (resul
 IsMessageEnd message_end.Closes result old text new = (result ≡ NoCall) × (text ≡ []) × (new ≡ old)
 IsMessageEnd message_end.WriteFault result old text new = (reply : List ℕ) × (result ≡ Replied reply new) × IsPrefix text (reply_record reply)
 
-pub record IsMessageServed (end : MessageEnd) (client : ℕ) (old : List Mapping) (message : List ℕ) (new : List Mapping) (held held' : Option (List ℕ)) : Type 0 where
+pub record IsMessageAnswered (end : MessageEnd) (client : ℕ) (old : List Mapping) (message : List ℕ) (new : List Mapping) (held held' : Option (List ℕ)) : Type 0 where
   pub refused : Bool
   pub text : List ℕ
   pub writes : Appends held held' text
@@ -69,16 +53,16 @@ pub record LinkState : Type 0 where
   pub held : List ℕ
   pub table : List Mapping
 
-abbrev pub link_state : Assembly → List Mapping → LinkState
-link_state assembly table = record { held = assembly.held; table = table }
+abbrev pub link_state : List ℕ → List Mapping → LinkState
+link_state held table = record { held = held; table = table }
 
 -- These bytes are answered by this text and lead from one state to the other, whatever bytes and refusals come later.
 pub record Leads (client : ℕ) (refused : List Bool) (from : LinkState) (bytes text : List ℕ) (to : LinkState) : Type 0 where
   pub all : (later : List Bool) (more : List ℕ)
       → answers (refused ++ later) client from.table (from.held ++ (bytes ++ more)) ≡ behind_text text (answers later client to.table (to.held ++ more))
 
--- These bytes are answered by this text and end their link, whatever comes later.
-pub record Stops (client : ℕ) (refused : List Bool) (from : LinkState) (bytes text : List ℕ) (table : List Mapping) : Type 0 where
+-- These bytes are answered by this text and close their link, whatever comes later.
+pub record ClosesLink (client : ℕ) (refused : List Bool) (from : LinkState) (bytes text : List ℕ) (table : List Mapping) : Type 0 where
   pub all : (later : List Bool) (more : List ℕ)
       → answers (refused ++ later) client from.table (from.held ++ (bytes ++ more)) ≡ record { text = text; table = table; closes = true }
 
@@ -95,11 +79,11 @@ pub record BreaksOff (client : ℕ) (refused : List Bool) (from : LinkState) (by
 
 abbrev pub IsPieceEnd : PieceEnd → ℕ → List Bool → LinkState → List ℕ → List ℕ → LinkState → Type 0
 IsPieceEnd piece_end.Goes client refused from piece text to = Leads client refused from piece text to
-IsPieceEnd piece_end.Closed client refused from piece text to = Stops client refused from piece text to.table
+IsPieceEnd piece_end.Closed client refused from piece text to = ClosesLink client refused from piece text to.table
 IsPieceEnd piece_end.WriteFault client refused from piece text to = BreaksOff client refused from piece text to.table
 IsPieceEnd piece_end.Memory client refused from piece text to = BreaksOff client refused from piece text to.table
 
-pub record IsPieceServed (end : PieceEnd) (client : ℕ) (from : LinkState) (piece : List ℕ) (to : LinkState) (held held' : Option (List ℕ)) : Type 0 where
+pub record IsPieceAnswered (end : PieceEnd) (client : ℕ) (from : LinkState) (piece : List ℕ) (to : LinkState) (held held' : Option (List ℕ)) : Type 0 where
   pub refused : List Bool
   pub text : List ℕ
   pub writes : Appends held held' text

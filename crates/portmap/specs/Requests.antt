@@ -1,7 +1,7 @@
 -- What a call of the port mapper asks for, and what it comes to (RFC 1833 section 3; RFC 5531 section 9).
 use Rattle.std.specs.Prelude.{ℕ, ◌==◌, not, if◌then◌else◌, List, [], ◌∷◌, ◌++◌, Result, Ok, Err}
 use Rattle.xdr.specs.declared.fault.XdrFault.{XdrFault}
-use Rattle.xdr.specs.Reading.{Cursor, Reading, start, u32_at, finish_at}
+use Rattle.xdr.specs.Reading.{start, u32_at, finish_at}
 use Rattle.xdr.specs.Rows.{Item, Word, word_row, flag, text}
 use Rattle.xdr.specs.Lists.{list_row}
 use Rattle.rpc_msg.specs.Numbers.{success, prog_unavail, prog_mismatch, proc_unavail, garbage_args}

@@ -1,7 +1,6 @@
 //! A port mapper: program 100000 version 2 over TCP, as RFC 1833 section 3 has it, but for the indirect call.
 #![tactic(auto)]
 
-mod heard;
 mod message;
 mod ports;
 mod reply;

@@ -2,16 +2,16 @@
 ghost use Rattle.std.specs.Prelude.{◌≡◌, ◌≤◌, ◌<◌, ◌||◌, ℕ, length, take, drop, IfOk, MatchResult};
 ghost use Rattle.std.specs.Io.KnownBytes.{Consumes, IsAtEnd, Keeps};
 ghost use Rattle.gw_outside.specs.Causes.{HasCause, Rose, ended_after};
-ghost use Rattle.portmap.specs.Links.{IsAtRest, IsMessageServed, IsPieceServed, IsRecordWritten, link_state};
+ghost use Rattle.rpc_record.specs.Records.{Open, front};
+ghost use Rattle.portmap.specs.Links.{IsMessageAnswered, IsPieceAnswered, IsRecordWritten, link_state};
 ghost use Rattle.portmap.specs.Sessions.{IsSession, is_ended};
 
-use crate::heard::{Heard, hear};
 use crate::message::{MessageReply, answer_message};
 use crate::ports::Ports;
 use crate::reply::starved_record;
 use bytes::Bytes;
 use gw_outside::{ReadFault, Sink, Source, write_all};
-use rpc_record::Assembler;
+use rpc_record::{Stream, StreamStep};
 use std::alloc::Global;
 
 /// How a session ended.
@@ -27,7 +27,7 @@ pub enum PortEnd {
     ReadFault,
     /// A write failed: of the last reply a front was written, perhaps none.
     WriteFault,
-    /// There was no memory to keep a piece.
+    /// There was no memory to keep bytes of the link.
     Memory,
 }
 
@@ -72,7 +72,7 @@ fn serve_message<O: Sink>(
     message: Bytes,
     output: &mut O,
 ) -> MessageEnd
-    ensures served { IsMessageServed result client ports.old message ports.new (O.held output.old) (O.held output.new) }
+    ensures served { IsMessageAnswered result client ports.old message ports.new (O.held output.old) (O.held output.new) }
     ensures later { O.count output.old ≤ O.count output.new }
     ensures cause { result ≡ MessageEnd.WriteFault → Rose (O.count output.old) (O.count output.new) }
 {
@@ -96,24 +96,26 @@ fn serve_piece<O: Sink>(
     alloc: Global,
     ports: &mut Ports,
     client: u32,
-    assembler: &mut Assembler,
+    stream: &mut Stream,
     piece: &[u8],
     output: &mut O,
 ) -> PieceEnd
-    requires { IsAtRest assembler.old }
-    ensures served { IsPieceServed result client (link_state assembler.old ports.old) piece.now (link_state assembler.new ports.new)
+    requires { front stream.old ≡ Open }
+    ensures served { IsPieceAnswered result client (link_state stream.old ports.old) piece.now (link_state stream.new ports.new)
         (O.held output.old) (O.held output.new) }
-    ensures rest { result ≡ PieceEnd.Goes → IsAtRest assembler.new }
+    ensures rest { result ≡ PieceEnd.Goes → front stream.new ≡ Open }
     ensures later { O.count output.old ≤ O.count output.new }
     ensures cause { result ≡ PieceEnd.WriteFault → Rose (O.count output.old) (O.count output.new) }
 {
     let mut rest = piece;
     loop {
-        match hear(assembler, rest) {
-            Heard::More => return PieceEnd::Goes,
-            Heard::Broken => return PieceEnd::Closed,
-            Heard::NoMemory => return PieceEnd::Memory,
-            Heard::Record { taken, message } => {
+        let Ok(step) = stream.hear(alloc, rest) else {
+            return PieceEnd::Memory;
+        };
+        match step {
+            StreamStep::More => return PieceEnd::Goes,
+            StreamStep::Broken => return PieceEnd::Closed,
+            StreamStep::Record { taken, message } => {
                 match serve_message(alloc, ports, client, message, output) {
                     MessageEnd::Goes => rest = behind(rest, taken),
                     MessageEnd::Closes => return PieceEnd::Closed,
@@ -160,7 +162,9 @@ pub fn port_session<I: Source, O: Sink>(
     ensures writes_later { O.count output.old ≤ O.count output.new }
     ensures write_cause { result ≡ PortEnd.WriteFault → Rose (O.count output.old) (O.count output.new) }
 {
-    let mut assembler = Assembler::new(alloc);
+    let Ok(mut stream) = Stream::new(alloc) else {
+        return PortEnd::Memory;
+    };
     let mut buffer = [0; PIECE];
     let mut left = MOST_BYTES;
     while left > 0 {
@@ -170,14 +174,7 @@ pub fn port_session<I: Source, O: Sink>(
             Err(_) => return PortEnd::ReadFault,
         };
         left -= count as u64;
-        match serve_piece(
-            alloc,
-            ports,
-            client,
-            &mut assembler,
-            &buffer[..count],
-            output,
-        ) {
+        match serve_piece(alloc, ports, client, &mut stream, &buffer[..count], output) {
             PieceEnd::Goes => {}
             PieceEnd::Closed => return PortEnd::Closed,
             PieceEnd::WriteFault => return PortEnd::WriteFault,

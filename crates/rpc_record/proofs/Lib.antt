@@ -3,3 +3,4 @@ pub mod Scanning
 pub mod Fronts
 pub mod Streams
 pub mod Pieces
+pub mod HeardPieces

@@ -130,7 +130,7 @@ pub fed_broken : (s : Assembly) (piece : List ℕ) (fault : FrameFault) → s.fa
 unfolding feed_result
 fed_broken s piece fault e = ap (λ (k : Option FrameFault). feed_result_after k s piece) e
 
-by_fault : (s : Assembly) (piece : List ℕ) → s.fault ≡ None → feed_result s piece ≡ feed_by_front s piece (front (s.held ++ piece))
+pub by_fault : (s : Assembly) (piece : List ℕ) → s.fault ≡ None → feed_result s piece ≡ feed_by_front s piece (front (s.held ++ piece))
 unfolding feed_result
 by_fault s piece e = ap (λ (k : Option FrameFault). feed_result_after k s piece) e
 

@@ -1,3 +1,4 @@
 pub mod Records
 pub mod Assembly
 pub mod Scanned
+pub mod Streams

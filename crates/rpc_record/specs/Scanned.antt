@@ -1,7 +1,7 @@
 -- What was found at the front of a stream.
 use Rattle.std.specs.Prelude.{◌≡◌, ◌≢◌, ℕ, ◌≤◌, List, length, drop}
-use Rattle.rpc_record.specs.declared.stream.FirstRecord.{FirstRecord}
-use Rattle.rpc_record.specs.declared.stream.FirstRecord.TheVariants as found
+use Rattle.rpc_record.specs.declared.fragments.FirstRecord.{FirstRecord}
+use Rattle.rpc_record.specs.declared.fragments.FirstRecord.TheVariants as found
 use Rattle.rpc_record.specs.declared.fault.FrameFault.TheVariants.{Memory}
 use Rattle.rpc_record.specs.Records.{Open, Fault, Whole, front}
 

@@ -5,7 +5,7 @@ ghost use Rattle.rpc_record.specs.Records.{Open, Fault, Whole, front};
 ghost use Rattle.rpc_record.specs.Assembly.{empty_assembly, feed_result};
 
 use crate::FrameFault;
-use crate::stream::{FirstRecord, join, scan};
+use crate::fragments::{FirstRecord, join, scan};
 use bytes::Bytes;
 use std::alloc::Global;
 use std::marker::Model;

@@ -3,6 +3,7 @@
 
 mod assembler;
 mod fault;
+mod fragments;
 mod laws;
 mod marking;
 mod stream;
@@ -11,6 +12,7 @@ pub use assembler::Assembler;
 pub use fault::FrameFault;
 pub use laws::{assembler_law, front_law, records_law};
 pub use marking::mark;
+pub use stream::{Stream, StreamStep};
 
 #[cfg(test)]
 mod tests;

@@ -1,106 +1,89 @@
-// Where the first record of a stream ends, and its fragments joined.
-ghost use Rattle.std.specs.Prelude.{◌≡◌, ◌+◌, ◌≤◌, ◌<◌, ◌++◌, ◌↔◌, ℕ, List, [], length, take, drop, slice_get, Some, IfNone, IfSome, IfOk};
-ghost use Rattle.rpc_record.specs.Records.{Front, Whole, front, header};
-ghost use Rattle.rpc_record.specs.Scanned.{IsFirstRecord};
+// The bytes of a connection, cut into records.
+ghost use Rattle.std.specs.Prelude.{◌≡◌, ◌≢◌, [], ◌++◌, IfOk, OnErr};
+ghost use Rattle.rpc_record.specs.declared.fault.FrameFault.{FrameFault};
+ghost use Rattle.rpc_record.specs.Records.{Fault, front};
+ghost use Rattle.rpc_record.specs.Streams.{IsAtRest, IsHeard};
 
-use crate::FrameFault;
+use crate::assembler::Assembler;
+use crate::fault::FrameFault;
+use bytes::Bytes;
 use std::alloc::{AllocError, Global};
+use std::marker::Model;
 
-/// What was found at the front of a stream.
-pub enum FirstRecord {
-    /// No whole record yet.
-    Open,
-    Fault(FrameFault),
-    /// A record whose last fragment ends behind `end` bytes.
-    Whole { end: usize },
+/// What a piece of a stream came to.
+#[derive(Debug, Drop)]
+pub enum StreamStep {
+    /// All of it was taken, and a record is still to be completed.
+    More,
+    /// So many of its bytes complete a record.
+    Record { taken: usize, message: Bytes },
+    /// A record that is too long, or has too many fragments.
+    Broken,
 }
 
-const LONGEST_RECORD: usize = 1_052_672;
+/// A stream of records (RFC 5531 section 11), of which the bytes since the last whole one are kept.
+#[derive(Drop)]
+pub struct Stream {
+    // In a box, so that a stream which is taken out of a map and given back for each piece moves as a pointer.
+    assembler: Box<Assembler>,
+}
 
-const MOST_FRAGMENTS: u32 = 64;
+impl Model for Stream {
+    ghost use Rattle.std.specs.Prelude.{ℕ, List};
+    ghost use Rattle.rpc_record.specs.Streams.{IsAtRest};
 
-const LAST_FRAGMENT: u32 = 0x8000_0000;
+    ghost Value = { List ℕ };
 
-// The byte at a place of the stream that begins with `held` and goes on with `piece`.
-fn byte_at(held: &[u8], piece: &[u8], at: usize) -> Option<u8>
-    ensures { result ≡ slice_get (held.now ++ piece.now) at }
+    ghost view = { λ s. s.assembler.value.held };
+
+    ghost invariant = { λ s. IsAtRest s.assembler.value };
+}
+
+// Has an assembler take bytes of a piece. After a fault it is one at the start of a stream.
+#[tactic(auto, using(crate::proofs::Fronts::front_empty))]
+fn assemble(
+    assembler: &mut Assembler,
+    alloc: Global,
+    piece: &[u8],
+) -> Result<StreamStep, AllocError>
+    requires rest { IsAtRest assembler.old }
+    ensures ok { IfOk result (λ heard. IsHeard heard assembler.old.held piece.now assembler.new.held) }
+    ensures rest { IsAtRest assembler.new }
+    ensures err { OnErr result (assembler.new ≡ assembler.old) }
+    ensures sound { OnErr result ((fault : FrameFault) → front (assembler.old.held ++ piece.now) ≢ Fault fault) }
 {
-    if at < held.len() {
-        Some(held[at])
-    } else {
-        piece.get(at - held.len()).copied()
+    match assembler.feed(piece) {
+        Ok(taken) => match assembler.next() {
+            Some(message) => Ok(StreamStep::Record { taken, message }),
+            None => Ok(StreamStep::More),
+        },
+        Err(fault) => {
+            if fault == FrameFault::Memory {
+                return Err(AllocError);
+            }
+            *assembler = Assembler::new(alloc);
+            Ok(StreamStep::Broken)
+        }
     }
 }
 
-// The header at a place of the stream, if its four bytes are there.
-fn header_at(held: &[u8], piece: &[u8], at: usize) -> Option<u32>
-    requires { at ≤ length held.now + length piece.now }
-    ensures short { IfNone result (length (drop at (held.now ++ piece.now)) < 4) }
-    ensures there { IfSome result (λ _. 4 ≤ length (drop at (held.now ++ piece.now))) }
-    ensures value { IfSome result (λ h. h ≡ header (drop at (held.now ++ piece.now))) }
-{
-    let word = [
-        byte_at(held, piece, at)?,
-        byte_at(held, piece, at + 1)?,
-        byte_at(held, piece, at + 2)?,
-        byte_at(held, piece, at + 3)?,
-    ];
-    Some(u32::from_be_bytes(word))
-}
-
-/// Looks at the headers of the first record of the stream that begins with `held` and goes on with
-/// `piece`, from its first one on, whatever an earlier call saw of `held`. It copies nothing.
-pub fn scan(held: &[u8], piece: &[u8]) -> FirstRecord
-    ensures { IsFirstRecord result (held.now ++ piece.now) }
-{
-    let total = held.len() + piece.len();
-    let mut left = MOST_FRAGMENTS;
-    let mut joined = 0;
-    let mut at = 0;
-    loop {
-        let Some(header) = header_at(held, piece, at) else {
-            return FirstRecord::Open;
-        };
-        if left == 0 {
-            return FirstRecord::Fault(FrameFault::TooMany);
-        }
-        let len = (header % LAST_FRAGMENT) as usize;
-        joined += len;
-        if joined > LONGEST_RECORD {
-            return FirstRecord::Fault(FrameFault::TooLong {
-                have: joined as u64,
-            });
-        }
-        if total - at < 4 + len {
-            return FirstRecord::Open;
-        }
-        at += 4 + len;
-        if header >= LAST_FRAGMENT {
-            return FirstRecord::Whole { end: at };
-        }
-        left -= 1;
+impl Stream {
+    /// A stream at its start. Takes memory.
+    #[tactic(auto, using(crate::proofs::Fronts::front_empty))]
+    pub fn new(alloc: Global) -> Result<Stream, AllocError>
+        ensures { IfOk result (λ stream. stream ≡ []) }
+    {
+        let assembler = Box::new(alloc, Assembler::new(alloc))?;
+        Ok(Stream { assembler })
     }
-}
 
-/// The join of the fragments of one record.
-pub fn join(alloc: Global, fragments: &[u8]) -> Result<Vec<u8>, AllocError>
-    requires { (joined : List ℕ) × (front fragments.now ≡ Whole joined []) }
-    ensures { IfOk result (λ joined. front fragments.now ≡ Whole joined.items []) }
-{
-    let mut joined = Vec::with_capacity(alloc, fragments.len())?;
-    let mut rest = fragments;
-    let mut left = MOST_FRAGMENTS;
-    loop {
-        let Some((word, behind)) = rest.split_first_chunk::<4>() else {
-            unreachable!()
-        };
-        let header = u32::from_be_bytes(*word);
-        let (body, behind) = behind.split_at((header % LAST_FRAGMENT) as usize);
-        joined.extend_from_slice(body)?;
-        if header >= LAST_FRAGMENT {
-            return Ok(joined);
-        }
-        rest = behind;
-        left -= 1;
+    /// Takes bytes of a piece: all of it, or up to the end of a record, which is given. After a header at fault the stream is
+    /// at its start. Takes memory: want of it changes nothing, and is never answered for a header at fault.
+    pub fn hear(&mut self, alloc: Global, piece: &[u8]) -> Result<StreamStep, AllocError>
+        ensures ok { IfOk result (λ heard. IsHeard heard self.old piece.now self.new) }
+        ensures err { OnErr result (self.new ≡ self.old) }
+        ensures sound { OnErr result ((fault : FrameFault) → front (self.old ++ piece.now) ≢ Fault fault) }
+    {
+        assemble(&mut self.assembler, alloc, piece)
     }
 }

@@ -2,7 +2,7 @@ use Rattle.std.proofs.Common.{◌≡◌, ℕ, ◌%◌, ◌^◌, ◌++◌, drop, 
 use Rattle.rpc_record.specs.Records.{header, fragment_len}
 use Rattle.rpc_record.proofs.Steps.{not_last_is}
 use Rattle.rpc_record.proofs.Scanning.{scan_start, scan_more, scan_short, scan_many, scan_long, scan_cut, scan_whole}
-use Rattle.rpc_record.proofs.stream.scan.Goals as goal
+use Rattle.rpc_record.proofs.fragments.scan.Goals as goal
 
 pub loop-header-init : goal.loop-header-init
 loop-header-init c = (refl, scan_start (c.args.held.now ++ c.args.piece.now))

@@ -1,6 +1,6 @@
 use Rattle.std.proofs.Common.{◌++◌, sym, ◌∙◌}
 use Rattle.rpc_record.proofs.Scanning.{header_of}
-use Rattle.rpc_record.proofs.stream.header_at.Goals as goal
+use Rattle.rpc_record.proofs.fragments.header_at.Goals as goal
 
 pub returns-clause-value : goal.returns-clause-value
 returns-clause-value c =

@@ -2,7 +2,7 @@ use Rattle.std.proofs.Common.{◌≡◌, ℕ, ◌+◌, ◌%◌, ◌^◌, ◌≤�
 use Rattle.rpc_record.specs.Records.{fragment_len, fragment_body}
 use Rattle.rpc_record.proofs.Steps.{last_is, not_last_is}
 use Rattle.rpc_record.proofs.Scanning.{join_start, some_header, some_left, some_body, join_last, join_more, header_is, body_is, behind_is}
-use Rattle.rpc_record.proofs.stream.join.Goals as goal
+use Rattle.rpc_record.proofs.fragments.join.Goals as goal
 
 pub loop-word-init : goal.loop-word-init
 loop-word-init c = rw c.in_ok-joined.ensures.items (join_start c.args.fragments.now c.requires.0 c.requires.1)
