@@ -57,10 +57,6 @@ counts_fresh n given none calls =
     ∙ ap (λ t. let c : Counts = record { faults = n.faults; tally = joined_tally n.tally t } in c) calls
     ∙ ap (λ t. let c : Counts = record { faults = n.faults; tally = t } in c) (joined-none n.tally)
 
--- a failure among the calls
-pub counted_rose : (kept : ℕ) (a b : Counts) → IsCounted (Failed kept ∷ []) a b → Rose a.faults b.faults
-counted_rose kept a b p = let fails = p.fails in omega (arith, fails)
-
 -- calls, and then memory was refused
 pub with_refusal_counted : (s : List Outcome) (a b : Counts) (event request : ℕ) → IsCounted s a b → IsCounted (s ++ NoMemory event request ∷ []) a b
 with_refusal_counted s a b event request p = counted_trans s (NoMemory event request ∷ []) a b b p (counted_refusal event request b)

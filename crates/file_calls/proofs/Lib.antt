@@ -5,3 +5,4 @@ pub mod PartRequests
 pub mod PartClosed
 pub mod PartCreation
 pub mod PartTurns
+pub mod Results

@@ -2,10 +2,10 @@
 use Rattle.std.proofs.Common.{◌≡◌, ℕ, inl, inr, List, [], ◌∷◌, ◌++◌, Option, Some, None, refl, sym, ◌∙◌, ap, subst, append-nil, append_assoc}
 use Rattle.gw_model.specs.File.{Body, Wrote, NotWritten, Committed, NotCommitted, Gave, NotGiven, SystemErr, Silence, Answer}
 use Rattle.tickets.specs.Desk.{TicketId, DeskState, waiting_ticket, with_issued, with_answered, with_cancelled}
-use Rattle.tickets.specs.Laws.{DeskCall, Issue, Send, DropTicket, CancelConn, after_call, after_calls}
-use Rattle.file_calls.specs.Replies.{reply_bytes, closed_line}
+use Rattle.tickets.specs.Laws.{DeskCall, Issue, Send, CancelConn, after_call, after_calls}
+use Rattle.file_calls.specs.Replies.{reply_bytes, reply_line, closed_line}
 use Rattle.file_calls.specs.Part.{answer_line, desk_after, send_result, text_to}
-use Rattle.file_calls.specs.OneReply.{IsLineTo, IsDeskLine, AreDeskLines, Speaks}
+use Rattle.file_calls.specs.OneReply.{IsLineTo, IsDeskLine, AreDeskLines, Speaks, SendsByCalls, sending_call, sending_calls}
 
 desk_append : (calls more : List DeskCall) (d : DeskState) → after_calls (calls ++ more) d ≡ after_calls more (after_calls calls d)
 desk_append [] more d = refl
@@ -46,51 +46,47 @@ speaks_reply n d reply = one_line (Send n) d (text_to (waiting_ticket n d) reply
     go None = refl
     go (Some t) = (reply, refl)
 
-one_answer : (n : ℕ) (d : DeskState) (body : Body) → Speaks d (desk_after body n d) (answer_line (waiting_ticket n d) body)
-one_answer n d Silence = one_line (DropTicket n) d (answer_line (waiting_ticket n d) Silence) (go (waiting_ticket n d))
+-- a line by the ticket that waits
+line_to : (line : Option TicketId → List ℕ) (reply : TicketId → List ℕ) → line None ≡ [] → ((t : TicketId) → line (Some t) ≡ reply_line t.conn (reply t))
+    → (waiting : Option TicketId) → IsLineTo waiting (line waiting)
+line_to line reply none some None = none
+line_to line reply none some (Some t) = (reply t, some t)
+
+-- An answer is sent by its call.
+answer_desk : (n : ℕ) (d : DeskState) (body : Body) → desk_after body n d ≡ after_call (sending_call n body) d
+answer_desk n d Silence = refl
+answer_desk n d (Wrote count level) = refl
+answer_desk n d (NotWritten status) = refl
+answer_desk n d Committed = refl
+answer_desk n d (NotCommitted status) = refl
+answer_desk n d (Gave bytes eof) = refl
+answer_desk n d (NotGiven status) = refl
+answer_desk n d SystemErr = refl
+
+answer_is_line : (n : ℕ) (d : DeskState) (body : Body) → IsDeskLine (sending_call n body) d (answer_line (waiting_ticket n d) body)
+answer_is_line n d Silence = go (waiting_ticket n d)
   where
     go : (t : Option TicketId) → answer_line t Silence ≡ []
     go None = refl
     go (Some t) = refl
-one_answer n d (Wrote count level) = one_line (Send n) d (answer_line (waiting_ticket n d) (Wrote count level)) (go (waiting_ticket n d))
-  where
-    go : (t : Option TicketId) → IsLineTo t (answer_line t (Wrote count level))
-    go None = refl
-    go (Some t) = (reply_bytes t.xid (Wrote count level), refl)
-one_answer n d (NotWritten status) = one_line (Send n) d (answer_line (waiting_ticket n d) (NotWritten status)) (go (waiting_ticket n d))
-  where
-    go : (t : Option TicketId) → IsLineTo t (answer_line t (NotWritten status))
-    go None = refl
-    go (Some t) = (reply_bytes t.xid (NotWritten status), refl)
-one_answer n d Committed = one_line (Send n) d (answer_line (waiting_ticket n d) Committed) (go (waiting_ticket n d))
-  where
-    go : (t : Option TicketId) → IsLineTo t (answer_line t Committed)
-    go None = refl
-    go (Some t) = (reply_bytes t.xid Committed, refl)
-one_answer n d (NotCommitted status) = one_line (Send n) d (answer_line (waiting_ticket n d) (NotCommitted status)) (go (waiting_ticket n d))
-  where
-    go : (t : Option TicketId) → IsLineTo t (answer_line t (NotCommitted status))
-    go None = refl
-    go (Some t) = (reply_bytes t.xid (NotCommitted status), refl)
-one_answer n d (Gave bytes eof) = one_line (Send n) d (answer_line (waiting_ticket n d) (Gave bytes eof)) (go (waiting_ticket n d))
-  where
-    go : (t : Option TicketId) → IsLineTo t (answer_line t (Gave bytes eof))
-    go None = refl
-    go (Some t) = (reply_bytes t.xid (Gave bytes eof), refl)
-one_answer n d (NotGiven status) = one_line (Send n) d (answer_line (waiting_ticket n d) (NotGiven status)) (go (waiting_ticket n d))
-  where
-    go : (t : Option TicketId) → IsLineTo t (answer_line t (NotGiven status))
-    go None = refl
-    go (Some t) = (reply_bytes t.xid (NotGiven status), refl)
-one_answer n d SystemErr = one_line (Send n) d (answer_line (waiting_ticket n d) SystemErr) (go (waiting_ticket n d))
-  where
-    go : (t : Option TicketId) → IsLineTo t (answer_line t SystemErr)
-    go None = refl
-    go (Some t) = (reply_bytes t.xid SystemErr, refl)
+answer_is_line n d (Wrote count level) = line_to (λ o. answer_line o (Wrote count level)) (λ t. reply_bytes t.xid (Wrote count level)) refl (λ t. refl) (waiting_ticket n d)
+answer_is_line n d (NotWritten status) = line_to (λ o. answer_line o (NotWritten status)) (λ t. reply_bytes t.xid (NotWritten status)) refl (λ t. refl) (waiting_ticket n d)
+answer_is_line n d Committed = line_to (λ o. answer_line o Committed) (λ t. reply_bytes t.xid Committed) refl (λ t. refl) (waiting_ticket n d)
+answer_is_line n d (NotCommitted status) = line_to (λ o. answer_line o (NotCommitted status)) (λ t. reply_bytes t.xid (NotCommitted status)) refl (λ t. refl) (waiting_ticket n d)
+answer_is_line n d (Gave bytes eof) = line_to (λ o. answer_line o (Gave bytes eof)) (λ t. reply_bytes t.xid (Gave bytes eof)) refl (λ t. refl) (waiting_ticket n d)
+answer_is_line n d (NotGiven status) = line_to (λ o. answer_line o (NotGiven status)) (λ t. reply_bytes t.xid (NotGiven status)) refl (λ t. refl) (waiting_ticket n d)
+answer_is_line n d SystemErr = line_to (λ o. answer_line o SystemErr) (λ t. reply_bytes t.xid SystemErr) refl (λ t. refl) (waiting_ticket n d)
+
+pub sends_by_calls : SendsByCalls
+sends_by_calls [] d = (refl, refl)
+sends_by_calls (a ∷ answers) d =
+    let mid = desk_after a.body a.ticket d in
+    let is = answer_desk a.ticket d a.body in
+    let rest = sends_by_calls answers mid in (
+      rest.0 ∙ ap (after_calls (sending_calls answers)) is,
+      (answer_line (waiting_ticket a.ticket d) a.body, (send_result mid answers).text, refl, answer_is_line a.ticket d a.body, subst (λ k. AreDeskLines (sending_calls answers) k (send_result mid answers).text) is rest.1),
+    )
 
 -- answers that are sent are lines of calls of the desk
 pub speaks_answers : (answers : List Answer) (d : DeskState) → Speaks d (send_result d answers).desk (send_result d answers).text
-speaks_answers [] d = speaks_none d
-speaks_answers (a ∷ answers) d =
-    let mid = desk_after a.body a.ticket d in
-    speaks_trans d mid (send_result mid answers).desk (answer_line (waiting_ticket a.ticket d) a.body) (send_result mid answers).text (one_answer a.ticket d a.body) (speaks_answers answers mid)
+speaks_answers answers d = let sent = sends_by_calls answers d in record { calls = sending_calls answers; desk = sent.0; lines = sent.1 }

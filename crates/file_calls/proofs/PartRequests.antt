@@ -289,10 +289,6 @@ pub step_err : {T E : Type 0} (result : Result T E) (tells : Type 0) (act : Act)
 step_err (Ok t) tells act old new text s = tt
 step_err (Err e) tells act old new text s = inr (text, s)
 
-pub always_err : {T E : Type 0} (result : Result T E) {P : Type 0} → P → OnErr result P
-always_err (Ok t) p = tt
-always_err (Err e) p = p
-
 -- the acts of requests
 pub says : (tells : Type 0) (conn xid : ℕ) (reply : List ℕ) (old new : Scene) (text : List ℕ) → Steps tells (new_request_result conn xid (reply_action reply)) old new text false → IsStep tells (Reply conn xid reply) old new text false
 unfolding next_part
@@ -309,9 +305,6 @@ reads tells conn call old new text s = s
 -- a request of the open file goes to it
 pub goes_write : (call : WriteCall) (q : WriteRequest) (ticket : ℕ) → q ≡ call_write_request call ticket → GoesTo (write_action call) (λ f t. write_step defaults f q t) ticket
 goes_write call q ticket is w f t opened last = ap (λ o. write_act_result o w (call_write_request call w.desk.last) t) opened ∙ ap (λ x. file_step_result w (write_step defaults f x t)) (ap (call_write_request call) last ∙ sym is)
-
-pub goes_first : (q : WriteRequest) (ticket : ℕ) → GoesTo (λ w t. write_act_result w.opened w q t) (λ f t. write_step defaults f q t) ticket
-goes_first q ticket w f t opened last = ap (λ o. write_act_result o w q t) opened
 
 pub goes_read : (call : ReadCall) (q : ReadRequest) (ticket : ℕ) → q ≡ call_read_request call ticket → GoesTo (read_action call) (λ f t. read_step defaults f q t) ticket
 goes_read call q ticket is w f t opened last = ap (λ o. read_act_result o w (call_read_request call w.desk.last) t) opened ∙ ap (λ x. file_step_result w (read_step defaults f x t)) (ap (call_read_request call) last ∙ sym is)

@@ -93,7 +93,7 @@ handed_want None old new h = ap is_want h.0
 handed_want (Some a) old new h = ap is_want h.0
 
 with_left : (c : CellState) (xs : List Answer) (f : File) → StandsFor c f → StandsFor (record c { left = xs }) f
-with_left c xs f h = record { side = h.side; writer = h.writer; base = h.base; issued = h.issued; stored = h.stored; below = h.below; content = h.content }
+with_left c xs f h = record { side = h.side; writer = h.writer; base = h.base; sound = h.sound; content = h.content }
 
 -- a job was done
 module _ (tells : Type 0) (c d e : CellState) (n n' n'' : TraceState) (answer : Option Sendable) (done : cell.CellTurns tells c d n n') (hands : Hands answer d.left e.left) (rest : e ≡ record d { left = e.left }) (is : n'' ≡ noted_after (is_want_in answer) n') where
@@ -329,10 +329,6 @@ pub sent_err : {T E : Type 0} (result : Result T E) (tells : Type 0) (act : Act)
     → IsStep tells act old (scene k s) text false → d ≡ k.desk → OnErr result (IsActCut tells act old (scene (record k { desk = d }) s))
 sent_err (Ok t) tells act old k d s text step desk = tt
 sent_err (Err e) tells act old k d s text step desk = inr (text, subst (λ x. IsStep tells act old (scene (record k { desk = x }) s) text false) (sym desk) step)
-
-pub if_ok : {T E : Type 0} {P Q : T → Type 0} (r : Result T E) → ((t : T) → P t → Q t) → IfOk r P → IfOk r Q
-if_ok (Ok t) f p = f t p
-if_ok (Err e) f p = tt
 
 pub begun_room : (n m : TraceState) → n ≡ next_event m → n ≡ record (next_event m) { room = n.room }
 begun_room n m e = e ∙ ap (λ r. let x : TraceState = record (next_event m) { room = r } in x) (sym (ap (λ (x : TraceState). x.room) e))

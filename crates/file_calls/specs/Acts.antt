@@ -1,5 +1,5 @@
 -- What a transcript asks of the file and of the desk, act by act.
-use Rattle.std.specs.Prelude.{◌≡◌, ℕ, Bool, true, false, List}
+use Rattle.std.specs.Prelude.{◌≡◌, ℕ, List}
 use Rattle.file_calls.specs.declared.call.ReadCall.{ReadCall}
 use Rattle.file_calls.specs.declared.call.WriteCall.{WriteCall}
 
@@ -22,11 +22,6 @@ pub data Act : Type 0 where
   TurnFile : Act
   -- an event: the admission side hears of the writer and sends what is ready
   PumpFile : Act
-
--- whether its connection ends with it
-abbrev pub act_ends : Act → Bool
-act_ends (CloseConnection conn) = true
-act_ends _ = false
 
 -- a request with this number of its own
 abbrev pub IsRequest : Act → ℕ → ℕ → Type 0

@@ -1,9 +1,11 @@
 -- What is written to connections, whatever a store tells: each line is what one call of the desk gave, so a request gets at
 -- most one reply.
-use Rattle.std.specs.Prelude.{◌≡◌, ◌⊎◌, ℕ, List, [], ◌∷◌, ◌++◌, Option, Some, None}
+use Rattle.std.specs.Prelude.{◌≡◌, ◌⊎◌, ℕ, List, [], ◌∷◌, ◌++◌, map, Option, Some, None}
 use Rattle.tickets.specs.Desk.{TicketId, DeskState, waiting_ticket}
+use Rattle.gw_model.specs.File.{Body, Silence, Answer}
 use Rattle.tickets.specs.Laws.{DeskCall, Issue, Refused, Send, DropTicket, CancelConn, after_call, after_calls}
 use Rattle.file_calls.specs.Replies.{reply_line, closed_line}
+use Rattle.file_calls.specs.Part.{send_result}
 
 -- a line to the one who waits, if anybody does
 abbrev pub IsLineTo : Option TicketId → List ℕ → Type 0
@@ -22,10 +24,25 @@ IsDeskLine (DropTicket number) d line = line ≡ []
 -- of calls, one after another
 abbrev pub AreDeskLines : List DeskCall → DeskState → List ℕ → Type 0
 AreDeskLines [] d text = text ≡ []
-AreDeskLines (call ∷ calls) d text = (line rest : List ℕ) × (text ≡ line ++ rest) × IsDeskLine call d line × AreDeskLines calls (after_call call d) rest
+AreDeskLines (call ∷ calls) d text =
+    (line rest : List ℕ) × (text ≡ line ++ rest) × IsDeskLine call d line × AreDeskLines calls (after_call call d) rest
 
 -- Calls that led from one desk to another, with what was written for them.
 pub record Speaks (old new : DeskState) (text : List ℕ) : Type 0 where
   pub calls : List DeskCall
   pub desk : new ≡ after_calls calls old
   pub lines : AreDeskLines calls old text
+
+-- the call by which an answer is sent: a reply, or none and the ticket is dropped
+abbrev pub sending_call : ℕ → Body → DeskCall
+sending_call number Silence = DropTicket number
+sending_call number body = Send number
+
+abbrev pub sending_calls : List Answer → List DeskCall
+sending_calls answers = map (λ a. sending_call a.ticket a.body) answers
+
+-- What the definition leaves of a desk and writes for answers is what these calls leave, and lines for them.
+abbrev pub SendsByCalls : Type 0
+SendsByCalls = (answers : List Answer) (d : DeskState)
+    → ((send_result d answers).desk ≡ after_calls (sending_calls answers) d)
+    × AreDeskLines (sending_calls answers) d (send_result d answers).text

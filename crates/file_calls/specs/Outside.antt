@@ -7,7 +7,6 @@ use Rattle.gw_model.specs.Ahead.{Outcomes, Outcome, NoMemory}
 use Rattle.gw_model.specs.File.{File, content}
 use Rattle.gw_model.specs.Views.{TraceState, empty_trace}
 use Rattle.gw_outside.specs.Causes.{Carries}
-use Rattle.gw_outside.specs.declared.tally.Tally.{Tally}
 use Rattle.gw_outside.specs.Tally.{joined_tally}
 use Rattle.tickets.specs.Desk.{DeskState, new_desk}
 use Rattle.append_store.specs.declared.store.Cluster.{Ghosts}
@@ -29,9 +28,6 @@ body_id file = Body file 1
 pub record Store : Type 0 where
   pub body : ObjectState
   pub counts : Counts
-
-abbrev pub store_with : ObjectState → ℕ → Tally → Store
-store_with body faults tally = record { body = body; counts = record { faults = faults; tally = tally } }
 
 -- what it counts
 abbrev pub store_counts : {C F : Type 0} → Ghosts C F → C → Counts

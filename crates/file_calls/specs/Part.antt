@@ -8,7 +8,7 @@ use Rattle.gw_model.specs.Admission.{write_step, WriteRequest, read_step, ReadRe
 use Rattle.gw_model.specs.Statuses.{io}
 use Rattle.gw_model.specs.Views.{raised}
 use Rattle.gw_model.specs.Writer.{turn_step, range_of}
-use Rattle.tickets.specs.Desk.{TicketId, DeskState, new_desk, waiting_ticket, with_issued, with_dropped, with_answered, with_cancelled}
+use Rattle.tickets.specs.Desk.{TicketId, DeskState, waiting_ticket, with_issued, with_dropped, with_answered, with_cancelled}
 use Rattle.file_calls.specs.Replies.{reply_bytes, reply_line, closed_line}
 use Rattle.file_calls.specs.declared.call.ReadCall.{ReadCall}
 use Rattle.file_calls.specs.declared.call.WriteCall.{WriteCall}
@@ -21,9 +21,6 @@ pub record Part : Type 0 where
   pub opened : Option File
   -- the tickets issued, and those that wait for an answer
   pub desk : DeskState
-
-abbrev pub part_at_start : List ℕ → Part
-part_at_start body = record { body = body; opened = None; desk = new_desk }
 
 -- what the body holds
 abbrev pub body_in : List ℕ → Option File → List ℕ

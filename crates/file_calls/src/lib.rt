@@ -3,6 +3,7 @@
 
 mod answers;
 mod call;
+mod laws;
 mod limits;
 mod opening;
 mod part;
@@ -12,6 +13,7 @@ mod tests;
 mod tracker;
 
 pub use call::{ReadCall, WriteCall};
+pub use laws::send_laws;
 pub use part::{
     FirstWrite, StepResult, close_cell, create_body, first_write, idle_event, pump_cell, read_cell,
     read_closed, refuse_write, step_result, turn_cell, write_cell,

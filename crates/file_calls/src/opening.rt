@@ -1,5 +1,5 @@
 // Calls on the store for a file: its body is taken, and read where nobody has taken it.
-ghost use Rattle.std.specs.Prelude.{◌≡◌, ◌≢◌, ◌<◌, min, IfErr, IfOk};
+ghost use Rattle.std.specs.Prelude.{◌≡◌, ◌<◌, min, IfErr, IfOk};
 ghost use Rattle.gw_model.specs.declared.object.ObjectId.{ObjectId};
 ghost use Rattle.append_store.specs.State.{IsThere};
 ghost use Rattle.file_calls.specs.Opening.{IsOpened, IsStoredRange, FailsClosed};

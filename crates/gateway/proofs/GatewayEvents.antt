@@ -13,10 +13,6 @@ use Rattle.gateway.specs.declared.event.Event.{Event}
 use Rattle.gateway.specs.declared.event.Event.TheVariants.{MakeFile, Bytes, Turn, Pump, HangUp}
 use Rattle.nfs_procs.proofs.WorldOperations.{begun, begin_cut, cuts_one, does_begin, does_one, stops_one}
 
-pub always_err : {T E : Type 0} {Q : Type 0} (r : Result T E) → Q → OnErr r Q
-always_err (Ok t) q = tt
-always_err (Err e) q = q
-
 -- a file is made
 pub made_stepped : (tells : Type 0) (result : StepResult) (name : List ℕ) (kept : List (ℕ × Link)) (old new : WorldScene) → IsOperation tells result (CreateNamed name) old new
     → (links : Links) → AreLinks kept links → IsEventStep tells result (MakeFile name) links kept old new

@@ -1,10 +1,9 @@
 -- What the records of a piece ask for, one after another.
-use Rattle.std.proofs.Common.{◌≡◌, ℕ, ◌+◌, ◌<◌, Bool, true, false, List, [], ◌∷◌, ◌++◌, length, drop, refl, sym, ◌∙◌, ap, append_assoc, append-nil, length-append, string_bytes, arith}
+use Rattle.std.proofs.Common.{◌≡◌, ℕ, Bool, true, false, List, [], ◌∷◌, ◌++◌, drop, refl, sym, ◌∙◌, ap, append_assoc, append-nil, string_bytes}
 use Rattle.rpc_record.specs.declared.fault.FrameFault.{FrameFault}
 use Rattle.rpc_record.specs.Records.{Records, Open, Fault, Whole, front}
-use Rattle.rpc_record.proofs.Fronts.{whole_shrinks}
 use Rattle.rpc_record.proofs.Streams.{records_open, records_fault, records_whole}
-use Rattle.nfs_procs.specs.Targets.{ends_connection}
+use Rattle.file_requests.specs.Targets.{ends_connection}
 use Rattle.nfs_procs.specs.World.{Operation, Serve, Break}
 use Rattle.nfs_procs.specs.Contexts.{WorldScene, IsDone, IsCutOff, Does, Cuts, IsServed}
 use Rattle.gateway.specs.Links.{Hearing, hearing, hearing_by, hearing_of}
@@ -120,10 +119,3 @@ module _ (tells : Type 0) (conn : ℕ) (total : Hearing) (held rest : List ℕ) 
           let all : total ≡ behind (h.done ++ serve ∷ []) later = by_ending false (sym is.0 ∙ goes)
           ∙ ap (λ xs. let x : Hearing = record { operations = xs; link = later.link } in x) (sym (append_assoc h.done (serve ∷ []) later.operations)) in
           rw (none, is_text) (record { done = h.done ++ serve ∷ []; does = done; ahead = all })
-
--- each record takes bytes away
-pub less_ahead : (held rest message : List ℕ) (taken : ℕ) → front (held ++ rest) ≡ Whole message (drop taken rest) → length (drop taken rest) < length held + length rest
-less_ahead held rest message taken whole =
-    let shorter = whole_shrinks (held ++ rest) message (drop taken rest) whole in
-    let both = length-append held rest in
-    omega (arith, shorter, both)

@@ -1,4 +1,3 @@
 pub mod GatewayEvents
 pub mod GatewayPieces
 pub mod LinkMap
-pub mod StreamRecords

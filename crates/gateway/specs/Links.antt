@@ -1,7 +1,7 @@
 -- The connections of a transcript: their bytes are cut into records (RFC 5531 section 11), and each record is served.
 use Rattle.std.specs.Prelude.{◌≡◌, ℕ, ◌==◌, if◌then◌else◌, Bool, true, false, List, [], ◌∷◌, ◌++◌, Option, Some, None}
 use Rattle.rpc_record.specs.Records.{End, Rest, Broken, records}
-use Rattle.nfs_procs.specs.Targets.{ends_connection}
+use Rattle.file_requests.specs.Targets.{ends_connection}
 use Rattle.nfs_procs.specs.World.{Operation, CreateNamed, StartEvent, Serve, Break, HangUp, TurnOf, PumpOf, entry_at}
 use Rattle.gateway.specs.declared.link.Link.{Link}
 use Rattle.gateway.specs.declared.link.Link.TheVariants.{Open, Closed}

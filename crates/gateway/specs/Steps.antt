@@ -3,7 +3,6 @@ use Rattle.std.specs.Prelude.{◌≡◌, ℕ, Bool, true, false, List, [], strin
 use Rattle.append_store.specs.declared.store.Cluster.{Ghosts}
 use Rattle.file_calls.specs.declared.part.StepResult.{StepResult}
 use Rattle.file_calls.specs.declared.part.StepResult.TheVariants as stepped
-use Rattle.nfs_procs.specs.World.{entry_at}
 use Rattle.nfs_procs.specs.Contexts.{ProgramState, WorldScene, Does, Stops, Cuts, initial_state, world_scene_of}
 use Rattle.nfs_procs.specs.declared.served.Served.{Served}
 use Rattle.gateway.specs.Links.{Links, Hearing, AreLinks, SetsLink, arrival, hearing_at}

@@ -11,11 +11,11 @@ ghost use Rattle.gateway.specs.Steps.{idle_gateway, gateway_scene, IsPieceServed
 
 use crate::event::Event;
 use crate::link::{Link, forget_link, give_link, link_after, take_link};
-use crate::stream::{Stream, StreamStep};
 use append_store::Cluster;
 use file_calls::{StepResult, step_result};
 use gw_outside::{Sink, WriteFault};
 use nfs_procs::{Served, World};
+use rpc_record::{Stream, StreamStep};
 use std::alloc::{AllocError, Global};
 use std::collections::BTreeMap;
 use std::marker::Model;

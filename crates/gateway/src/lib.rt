@@ -4,7 +4,8 @@
 mod event;
 mod gateway;
 mod link;
-mod stream;
+#[cfg(test)]
+mod tests;
 
 pub use event::{Event, Piece};
 pub use gateway::Gateway;

@@ -5,7 +5,7 @@ ghost use Rattle.gateway.specs.Links.{SetsLink, link_in};
 ghost use Rattle.gateway.specs.Steps.{link_after as link_after_of};
 ghost use Rattle.gateway.specs.declared.link.Link.TheVariants.{Open, Closed};
 
-use crate::stream::Stream;
+use rpc_record::Stream;
 use std::alloc::{AllocError, Global};
 use std::collections::BTreeMap;
 use std::mem;

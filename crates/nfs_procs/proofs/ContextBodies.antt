@@ -1,16 +1,16 @@
 -- Where bodies are, after one file's part was changed.
 use Rattle.std.proofs.Common.{◌≡◌, ◌≢◌, ℕ, Bool, true, false, Option, Some, None, List, Result, Ok, Err, refl, sym, ◌∙◌, ap, subst}
-use Rattle.std.specs.Prelude.{◌==◌, is_err, IfOk, OnErr, OnOk}
+use Rattle.std.specs.Prelude.{◌==◌, is_err, OnOk}
 use Rattle.gw_outside.specs.Tally.{no_calls}
 use Rattle.gw_model.specs.declared.object.ObjectId.{ObjectId}
 use Rattle.gw_model.specs.declared.object.ObjectId.TheVariants.{Body, Log}
 use Rattle.append_store.specs.State.{ObjectState, Missing, Kept, Lent, IsThere, IsAway}
 use Rattle.file_cell.specs.State.{CellState}
-use Rattle.nfs_procs.specs.Messages.{is_file}
+use Rattle.file_requests.specs.Messages.{is_file}
 use Rattle.file_calls.specs.Outside.{IsBodyHome, IsBodySafe, body_id}
 use Rattle.file_calls.specs.PartSteps.{SameFile}
 use Rattle.nfs_procs.specs.World.{entry_at, put_at}
-use Rattle.nfs_procs.specs.Contexts.{AreBodiesPlaced, AreBodiesSafe, IsBodyPlaced, IsContextKept, LossesStay, ObjectsStay, SameLosses, StaysThere, StoreState}
+use Rattle.nfs_procs.specs.Contexts.{AreBodiesPlaced, AreBodiesSafe, IsBodyPlaced, IsContextKept, ObjectsStay, SameLosses, StaysThere, StoreState}
 use Rattle.nfs_procs.proofs.ContextMaps.{put_other, put_same, test_is, test_not}
 use Rattle.nfs_procs.proofs.ContextParts.{SameBut, body_apart}
 
@@ -129,18 +129,6 @@ stays_there tells k s s' o told same home =
     by_object (λ q. s.at q ≢ Missing → s'.at q ≢ Missing) k (λ there. home_there tells (s'.at (body_id k)) o told home) (λ q apart there. rw (same q apart).0 there)
 
 -- results
-
-pub with_ok : {T E : Type 0} {P Q : T → Type 0} (r : Result T E) → ((t : T) → P t → Q t) → IfOk r P → IfOk r Q
-with_ok (Ok t) f p = f t p
-with_ok (Err e) f p = tt
-
-pub with_err : {T E P Q : Type 0} (r : Result T E) → (P → Q) → OnErr r P → OnErr r Q
-with_err (Ok t) f p = tt
-with_err (Err e) f p = f p
-
-pub err_always : {T E P : Type 0} (r : Result T E) → P → OnErr r P
-err_always (Ok t) p = tt
-err_always (Err e) p = p
 
 pub ok_then : {T E P : Type 0} (r : Result T E) → is_err r ≡ false → OnOk r P → P
 ok_then (Ok t) e p = p

@@ -8,7 +8,7 @@ use Rattle.std.specs.BTreeMap.{insert_entry, is_at}
 use Rattle.std.specs.Map.{lookup}
 use Rattle.std.specs.Cmp.Lexicographic.{slice_cmp}
 use Rattle.std.proofs.lemmas.Bool.Decides.{nat_tests}
-use Rattle.nfs_procs.specs.Messages.{is_file}
+use Rattle.file_requests.specs.Messages.{is_file}
 use Rattle.nfs_procs.specs.World.{has_name, next_file}
 
 module _ {K V : Type 0} (cmp : K → K → Ordering) where

@@ -14,7 +14,7 @@ use Rattle.file_calls.specs.Acts.{Act}
 use Rattle.file_calls.specs.Counts.{IsCounted}
 use Rattle.file_calls.specs.Part.{Part, body_in, part_body, next_part}
 use Rattle.file_calls.specs.Outside.{Scene, Store, TrackerState, IsActCut, IsOpen, IsPart, IsStep, IsUntouched, StepsTo, ahead_at, body_at, body_id, part_state, scene}
-use Rattle.nfs_procs.specs.Targets.{OnDesk, OnFile}
+use Rattle.file_requests.specs.Targets.{OnDesk, OnFile}
 use Rattle.nfs_procs.specs.World.{World, Operation, entry_at, put_at, target_by_state, names_after, with_part, with_names, part_of_file, desk_part, world_bodies, target_result, next}
 use Rattle.nfs_procs.specs.Contexts.{ProgramState, StoreState, AllSame, AreBoth, IsContextKept, IsCutOff, IsDone, IsNotBegun, IsWorld, LeavesWorld, bodies_at, scene_at, total_counts, world_scene}
 use Rattle.nfs_procs.proofs.ContextCounts.{part_counted}

@@ -7,15 +7,14 @@ use Rattle.std.specs.BTreeMap.{insert_entry}
 use Rattle.std.specs.Cmp.Lexicographic.{slice_cmp}
 use Rattle.gw_model.specs.Ahead.{Outcomes}
 use Rattle.file_cell.specs.State.{CellState}
-use Rattle.file_calls.specs.Acts.{Act, CreateFile, IsRequest, Reply, WriteFile, ReadFile}
-use Rattle.nfs_procs.specs.Messages.{is_file}
+use Rattle.file_calls.specs.Acts.{Act, CreateFile, IsRequest}
+use Rattle.file_requests.specs.Messages.{is_file}
 use Rattle.file_calls.specs.Outside.{Scene, Store, IsActCut, IsActed, IsStep, StepsTo, part_state, scene, ahead_at, body_id, IsBodyHome, IsBodySafe}
-use Rattle.nfs_procs.specs.Targets.{Target, OnDesk, OnFile, OnNothing, IsRequestOf}
+use Rattle.file_requests.specs.Targets.{Target, OnDesk, OnFile, OnNothing, IsRequestOf}
 use Rattle.nfs_procs.specs.World.{World, Operation, CreateNamed, entry_at, has_name, names_after, next_file, next, target_by_state, target_result, with_names}
-use Rattle.nfs_procs.specs.Contexts.{ProgramState, StoreState, AreBodiesPlaced, AreBodiesSafe, IsBodyPlaced, IsCutOff, IsDone, IsNotBegun, IsOperation, LeavesWorld, body_store, scene_at, total_counts, world_scene, file_count}
+use Rattle.nfs_procs.specs.Contexts.{ProgramState, StoreState, AreBodiesPlaced, AreBodiesSafe, IsBodyPlaced, IsCutOff, IsDone, IsOperation, LeavesWorld, body_store, scene_at, world_scene, file_count}
 use Rattle.file_calls.specs.declared.part.StepResult.{StepResult}
 use Rattle.file_calls.specs.declared.part.StepResult.TheVariants as stepped
-use Rattle.file_calls.proofs.Counts.{counted_none}
 use Rattle.file_calls.proofs.OneReply.{speaks_none}
 use Rattle.nfs_procs.proofs.ContextBodies.{all_safe, cells_same, kept_equal, placed_by, safe_by}
 use Rattle.nfs_procs.proofs.ContextNames.{made_file, named_longer, other_file, unmade_file}
@@ -44,21 +43,15 @@ module _ (tells : Type 0) (operation : Operation) (h h' : ProgramState) (s : Sto
   request_by : (target : Target) (text : List ℕ) → target_by_state h.names h.cells operation ≡ target → IsRequestOf target conn xid
       → ((act : Act) → IsRequest act conn xid → (o : Option CellState) (x : Store) → IsStep (Unit {0}) act (scene (part_state o h.tracker) x) (scene (part_state o h'.tracker) x) text false)
       → IsDone tells operation (world_scene h s) (world_scene h' s) text false
-  request_by (OnFile k (ReadFile c call)) text aim is step = request_part k (ReadFile c call) text aim (step (ReadFile c call) is)
-  request_by (OnFile k (WriteFile c call)) text aim is step = request_part k (WriteFile c call) text aim (step (WriteFile c call) is)
-  request_by (OnDesk (Reply c x reply)) text aim is step = desk_done tells operation (Reply c x reply) h h' s aim names cells text false (step (Reply c x reply) is None (desk_store h s))
-  request_by (OnFile k _) text aim is step = absurd is
-  request_by (OnDesk _) text aim is step = absurd is
+  request_by (OnFile k act) text aim is step = request_part k act text aim (step act is)
+  request_by (OnDesk act) text aim is step = desk_done tells operation act h h' s aim names cells text false (step act is None (desk_store h s))
   request_by OnNothing text aim is step = absurd is
 
   cut_by : (target : Target) → target_by_state h.names h.cells operation ≡ target → IsRequestOf target conn xid
       → ((act : Act) → IsRequest act conn xid → (o : Option CellState) (x : Store) → IsActCut (Unit {0}) act (scene (part_state o h.tracker) x) (scene (part_state o h'.tracker) x))
       → IsCutOff tells operation (world_scene h s) (world_scene h' s)
-  cut_by (OnFile k (ReadFile c call)) aim is step = cut_part k (ReadFile c call) aim (step (ReadFile c call) is)
-  cut_by (OnFile k (WriteFile c call)) aim is step = cut_part k (WriteFile c call) aim (step (WriteFile c call) is)
-  cut_by (OnDesk (Reply c x reply)) aim is step = desk_cut tells operation (Reply c x reply) h h' s aim names cells (step (Reply c x reply) is None (desk_store h s))
-  cut_by (OnFile k _) aim is step = absurd is
-  cut_by (OnDesk _) aim is step = absurd is
+  cut_by (OnFile k act) aim is step = cut_part k act aim (step act is)
+  cut_by (OnDesk act) aim is step = desk_cut tells operation act h h' s aim names cells (step act is None (desk_store h s))
   cut_by OnNothing aim is step = absurd is
 
   -- memory was refused for it

@@ -1,6 +1,6 @@
 -- What stays of a store, call after call.
 use Rattle.std.proofs.Common.{refl, ◌∙◌}
-use Rattle.nfs_procs.specs.Contexts.{StoreState, LossesStay, ObjectsStay, SameLosses, StaysThere}
+use Rattle.nfs_procs.specs.Contexts.{StoreState, ObjectsStay, SameLosses, StaysThere}
 
 pub objects_same : (s : StoreState) → ObjectsStay s s
 objects_same s q apart = (refl, refl)
@@ -13,13 +13,3 @@ there_trans a b c s t q there = t q (s q there)
 
 pub losses_trans : (a b c : StoreState) → SameLosses a b → SameLosses b c → SameLosses a c
 losses_trans a b c s t q = t q ∙ s q
-
--- of objects that were there
-pub losses_stay : (a b : StoreState) → SameLosses a b → LossesStay a b
-losses_stay a b s q there = s q
-
-pub losses_stay_trans : (a b c : StoreState) → StaysThere a b → LossesStay a b → LossesStay b c → LossesStay a c
-losses_stay_trans a b c stays s t q there = t q (stays q there) ∙ s q there
-
-pub losses_stay_same : (a b c : StoreState) → LossesStay a b → SameLosses b c → LossesStay a c
-losses_stay_same a b c s t q there = t q ∙ s q there

@@ -7,8 +7,5 @@ pub mod ContextParts
 pub mod ContextReady
 pub mod ContextSteps
 pub mod ContextTargets
-pub mod MessageAsked
-pub mod MessageHandles
-pub mod MessageRows
 pub mod WorldOperations
 pub mod ContextStores

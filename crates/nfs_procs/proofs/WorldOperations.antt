@@ -2,9 +2,9 @@
 use Rattle.std.proofs.Common.{◌≡◌, ℕ, ◌-◌, ◌^◌, ◌<◌, inl, inr, Bool, true, false, List, [], ◌∷◌, ◌++◌, refl, sym, ◌∙◌, ap, subst, append_assoc, append-nil, arith}
 use Rattle.gw_model.specs.Ahead.{Outcomes, Outcome, Done, Failed, Listed, NoMemory}
 use Rattle.gw_model.specs.Views.{TraceState, next_event}
-use Rattle.file_calls.specs.Outside.{TrackerState, IsAfter, ahead_at}
+use Rattle.file_calls.specs.Outside.{IsAfter, ahead_at}
 use Rattle.file_calls.specs.Part.{next_part}
-use Rattle.nfs_procs.specs.World.{World, Operation, WorldResult, StartEvent, world_bodies, next, operations_result, result_then}
+use Rattle.nfs_procs.specs.World.{World, Operation, WorldResult, StartEvent, next, operations_result, result_then}
 use Rattle.nfs_procs.specs.Contexts.{ProgramState, StoreState, WorldScene, IsWorld, Passed, LeavesWorld, IsDone, IsNotBegun, IsCutOff, Does, Stops, Cuts, EndsAt, world_scene}
 use Rattle.file_calls.proofs.Counts.{counted_none, counted_trans}
 use Rattle.file_calls.proofs.OneReply.{speaks_none, speaks_trans}

@@ -1,19 +1,18 @@
 -- What the program keeps of many files, which worlds it stands for, and what operations leave of both.
 use Rattle.std.specs.Prelude.{◌≡◌, ◌≢◌, ℕ, ◌⊎◌, Bool, true, false, List, [], ◌∷◌, ◌++◌, length, Option, Some, None, string_bytes}
 use Rattle.gw_model.specs.declared.object.ObjectId.{ObjectId}
-use Rattle.gw_model.specs.Ahead.{Outcomes, Outcome}
+use Rattle.gw_model.specs.Ahead.{Outcome}
 use Rattle.append_store.specs.declared.store.Cluster.{Ghosts}
 use Rattle.append_store.specs.State.{ObjectState, Missing}
 use Rattle.file_cell.specs.State.{CellState}
 use Rattle.file_cell.specs.Files.{StandsFor}
-use Rattle.file_calls.specs.Acts.{CreateFile}
 use Rattle.file_calls.specs.Counts.{Counts, IsCounted, file_counts, joined_counts}
 use Rattle.file_calls.specs.OneReply.{Speaks}
 use Rattle.file_calls.specs.Part.{defaults}
-use Rattle.file_calls.specs.Outside.{TrackerState, new_tracker, PartState, Scene, Store, part_state, store_counts, body_id, body_at, scene, IsBodySafe, IsBodyHome, IsStep, IsActCut, IsAfter, ahead_at}
-use Rattle.nfs_procs.specs.Messages.{is_file}
-use Rattle.nfs_procs.specs.Targets.{Target}
-use Rattle.nfs_procs.specs.World.{World, Operation, WorldResult, RunOutput, entry_at, put_at, target_by_state, names_after, world_bodies, next, operations_result, run_output}
+use Rattle.file_calls.specs.Outside.{TrackerState, new_tracker, PartState, Scene, Store, part_state, store_counts, body_id, body_at, scene, IsBodySafe, IsBodyHome, IsAfter, ahead_at}
+use Rattle.file_requests.specs.Messages.{is_file}
+use Rattle.file_requests.specs.Targets.{Target}
+use Rattle.nfs_procs.specs.World.{World, Operation, WorldResult, entry_at, put_at, target_by_state, names_after, world_bodies, next, operations_result}
 use Rattle.nfs_procs.specs.declared.served.Served.{Served}
 use Rattle.file_calls.specs.declared.part.StepResult.{StepResult}
 use Rattle.file_calls.specs.declared.part.StepResult.TheVariants as stepped
@@ -121,12 +120,6 @@ abbrev pub IsContextKept : Option CellState → Option CellState → Type 0
 IsContextKept (Some c) None = ⊥
 IsContextKept _ _ = Unit {0}
 
--- one file's part of what a `file` line came to
-abbrev pub IsCreation : Type 0 → StepResult → Scene → Scene → Type 0
-IsCreation tells (stepped.Text text) old new = IsStep tells CreateFile old new (string_bytes text) false
-IsCreation tells stepped.StoreFault old new = IsStep tells CreateFile old new [] true
-IsCreation tells stepped.NoMemory old new = IsActCut tells CreateFile old new
-
 -- which worlds the program keeps so
 
 module _ {V W : Type 0} (R : V → W → Type 0) where
@@ -188,27 +181,6 @@ abbrev pub IsCutOff : Type 0 → Operation → WorldScene → WorldScene → Typ
 IsCutOff tells operation old new = IsNotBegun tells old new ⊎ ((text : List ℕ) × IsDone tells operation old new text false)
 
 -- operations
-
--- how a run goes on from a world, with what is ahead of it
-abbrev pub Continuation : Type 0
-Continuation = World → Outcomes → RunOutput
-
-abbrev pub with_text : List ℕ → RunOutput → RunOutput
-with_text text output = record output { text = text ++ output.text }
-
--- from here it comes to this text, and then goes on so from a world that the program stands for
-pub record Reaches (new : WorldScene) (text : List ℕ) (later : List Outcome) (to : Continuation) (output : RunOutput) : Type 0 where
-  pub world : World
-  pub is : IsWorld new world
-  pub output_is : output ≡ with_text text (to world (ahead_at new.kept.tracker.noted later))
-
-abbrev pub ContinuesAs : Type 0 → WorldScene → WorldScene → List Outcome → List ℕ → Continuation → Continuation → Type 0
-ContinuesAs tells old new outcomes text from to =
-    tells → (w : World) → IsWorld old w → (later : List Outcome) → IsAfter new.kept.tracker.noted later
-    → Reaches new text later to (from w (ahead_at old.kept.tracker.noted (outcomes ++ later)))
-
-abbrev pub operations_continuation : List Operation → Continuation
-operations_continuation operations w t = run_output w operations t
 
 -- Operations that were done, whatever operations and outcomes come later.
 pub record Does (tells : Type 0) (operations : List Operation) (old new : WorldScene) (text : List ℕ) : Type 0 where

@@ -10,10 +10,10 @@ use Rattle.gw_model.specs.Statuses.{jukebox}
 use Rattle.gw_model.specs.Ending.{Ended, history_of}
 use Rattle.tickets.specs.Desk.{DeskState, new_desk}
 use Rattle.file_cell.specs.History.{history_text}
-use Rattle.file_calls.specs.Acts.{Act, CreateFile, BeginEvent, WriteFile, CloseConnection, TurnFile, PumpFile}
+use Rattle.file_calls.specs.Acts.{CreateFile, BeginEvent, WriteFile, CloseConnection, TurnFile, PumpFile}
 use Rattle.file_calls.specs.Acts as act
 use Rattle.file_calls.specs.Part.{Part, PartResult, next_part, part_body}
-use Rattle.nfs_procs.specs.Targets.{Target, OnFile, OnDesk, OnNothing, reply_target, message_target}
+use Rattle.file_requests.specs.Targets.{Target, OnFile, OnDesk, OnNothing, reply_target, message_target}
 
 -- what events ask for
 pub data Operation : Type 0 where

@@ -1,11 +1,8 @@
-//! The procedures that are served: messages, and the world of many files.
+//! The files of a gateway by name, and their contexts by number: what each operation makes of this world.
 #![tactic(auto)]
 
-mod message;
-mod request;
 mod served;
 mod world;
 
-pub use request::Request;
 pub use served::Served;
 pub use world::World;

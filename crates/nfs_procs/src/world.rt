@@ -1,24 +1,22 @@
 // The names and the open files, and the requests that wait: what each operation makes of them.
-ghost use Rattle.std.specs.Prelude.{◌≡◌, ◌≢◌, ◌≤◌, ◌<◌, ◌+◌, ◌-◌, ◌^◌, ℕ, [], false, true, IfErr, IfOk, OnOk, OnErr, length, string_bytes, None};
+ghost use Rattle.std.specs.Prelude.{◌≡◌, ◌≤◌, ◌<◌, ◌+◌, ◌-◌, ◌^◌, ℕ, [], false, true, IfErr, IfOk, OnErr, length, string_bytes, None};
 ghost use Rattle.gw_outside.specs.Causes.{Rose};
 ghost use Rattle.gw_model.specs.Views.{next_event};
-ghost use Rattle.append_store.specs.State.{Lent, IsAway, bytes_of};
+ghost use Rattle.append_store.specs.State.{IsAway, bytes_of};
 ghost use Rattle.gw_model.specs.declared.object.ObjectId.{ObjectId};
 ghost use Rattle.append_store.specs.State.{ObjectState};
 ghost use Rattle.file_calls.specs.Acts.{WriteFile, ReadFile, TurnFile, PumpFile, Reply, CloseConnection};
 ghost use Rattle.nfs_procs.specs.Closing.{GivesAllBack, WritesHistories};
-ghost use Rattle.nfs_procs.specs.Messages.{is_file as is_file_of};
+ghost use Rattle.file_requests.specs.Messages.{is_file as is_file_of};
 ghost use Rattle.file_calls.specs.Outside.{Store, body_id, scene, store_counts, without_outcomes, IsActCut, IsBodyHome, IsText, OthersStay, StepsTo};
 ghost use Rattle.file_calls.specs.PartSteps.{SameFile};
-ghost use Rattle.nfs_procs.specs.Targets.{OnDesk, OnFile, IsFitting, IsRequestOf, ends_connection, is_ending, request_target};
+ghost use Rattle.file_requests.specs.Targets.{OnDesk, OnFile, IsFitting, IsRequestOf, ends_connection, is_ending, request_target};
 ghost use Rattle.nfs_procs.specs.World.{Operation, CreateNamed, Serve, Break, HangUp as HangUpOf, TurnOf, PumpOf, entry_at, has_name, may_open as may_open_of};
 ghost use Rattle.nfs_procs.specs.World.{opening_target, target_by_state, names_after};
 ghost use Rattle.nfs_procs.specs.Contexts.{ProgramState, StoreState, initial_state, file_count as file_count_of, state_at, scene_at, bodies_at, store_state};
 ghost use Rattle.nfs_procs.specs.Contexts.{world_scene, world_scene_of, AreBodiesPlaced, AreBodiesSafe, ChangesPart, HasTarget, IsContextKept};
 ghost use Rattle.nfs_procs.specs.Contexts.{IsCutOff, IsDone, IsOperation, IsServed, LossesStay, ObjectsStay, SameLosses, StaysThere};
 
-use crate::message::Refused;
-use crate::request::{Request, busy_request, read_request};
 use crate::served::Served;
 use append_store::Cluster;
 use bytes::Bytes;
@@ -28,6 +26,7 @@ use file_calls::{
     write_cell,
 };
 use file_cell::FileCell;
+use file_requests::{Refused, Request, busy_request, read_request};
 use gw_outside::{Sink, WriteFault};
 use range_map::SortedVecMap;
 use std::alloc::{AllocError, Global};
@@ -477,6 +476,7 @@ impl<C: Cluster> World<C> {
         ensures ending { IfOk result (λ r. is_ending r ≡ is_ending request) }
         ensures refused { IfErr result (λ e. (conn : ℕ)
             → IsRequestOf (opening_target self.now.cells (request_target conn request)) conn e.xid) }
+        ensures goes_on { OnErr result (is_ending request ≡ false) }
     {
         match request {
             Request::Write(file, call) => {

@@ -1,16 +1,12 @@
 -- From the end of the lines to the end of the run.
-use Rattle.std.proofs.Common.{◌≡◌, ◌≢◌, ℕ, ◌+◌, ◌&&◌, nat_le, nat_lt, Bool, true, false, List, [], ◌∷◌, ◌++◌, length, Some, None, unwrap_or, refl, sym, ◌∙◌, ap, subst, append_assoc, append-nil, ◌⊎◌, inl, inr, arith}
+use Rattle.std.proofs.Common.{◌≡◌, ◌≢◌, ℕ, ◌+◌, true, false, List, [], ◌∷◌, ◌++◌, length, Some, None, unwrap_or, refl, sym, ◌∙◌, ap, subst, append_assoc, append-nil, ◌⊎◌, inl, inr, arith}
 use Rattle.std.specs.declared.option.Option.{Option}
 use Rattle.std.specs.Io.KnownBytes.{Consumes, Appends, IsAtEnd}
 use Rattle.std.proofs.KnownBytes.{Appends-trans}
-use Rattle.std.proofs.lemmas.Bool.Decides.{nat_tests}
-use Rattle.gw_outside.specs.Causes.{Rose}
 use Rattle.gw_outside.specs.Writing.{IsPrefix, AppendsPrefix}
 use Rattle.gw_model.specs.Ahead.{Outcomes, Outcome}
 use Rattle.gw_model.specs.File.{File}
 use Rattle.gw_model.specs.Ending.{Ended, History, history_of}
-use Rattle.gw_model.specs.declared.object.ObjectId.{ObjectId}
-use Rattle.append_store.specs.State.{ObjectState, IsAway}
 use Rattle.file_cell.specs.History.{history_text}
 use Rattle.file_cell.specs.State.{CellState}
 use Rattle.file_cell.specs.Files.{StandsFor}
@@ -23,9 +19,7 @@ use Rattle.file_calls.specs.Counts.{Counts, IsCounted}
 use Rattle.replay.specs.Headline.{Outside, Traffic, Moves, CutPlace, no_traffic, event_script, ahead_of, IsWhole, IsCutShort, IsReadUpTo, IsRun, IsComplete, Runs}
 use Rattle.gateway.specs.Links.{no_links, operations_of}
 use Rattle.nfs_procs.specs.World.{Operation, WorldResult, RunOutput, operations_result, output_of, end_text, end_texts, world_at_start, world_bodies}
-use Rattle.file_calls.specs.Outside.{body_id}
-use Rattle.nfs_procs.specs.Messages.{is_file}
-use Rattle.nfs_procs.specs.Contexts.{ProgramState, LeavesWorld, AllSame, IsBodyPlaced, AreBodiesPlaced, total_counts}
+use Rattle.nfs_procs.specs.Contexts.{ProgramState, LeavesWorld, AllSame, total_counts}
 use Rattle.gateway.specs.Steps.{GatewayState}
 use Rattle.replay.specs.RunSteps.{Closes, IsEnding, SpeaksFront, LinesEnd, outside_scene, status_by}
 use Rattle.gateway.specs.declared.event.Event.{Event}
@@ -253,10 +247,6 @@ given_counted outcomes a cells n now f g =
     let fails = f.fails in
     record { calls = g.tally ∙ f.calls; fails = omega (arith, fails, k) }
 
--- a rise that stays a rise when the bodies are given back
-pub given_rose : (a : ℕ) (cells : List (ℕ × CellState)) (n now : Counts) → Rose a (total_counts cells n).faults → GivesAllBack cells n now → Rose a now.faults
-given_rose a cells n now r g = let k = g.faults in omega (arith, r, k)
-
 module _ (tells : Type 0) (is : LineOutcome) (n : ℕ) (state : GatewayState) (before : Outside) (left mid : Option (List ℕ)) (bodied bodies : ℕ → List ℕ) (m now : Counts)
     (e : LinesEnd tells is n state before (record { left = left; held = mid; bodies = bodied; counts = total_counts state.kept.cells m }))
     (back : GivesAllBack state.kept.cells m now) (bytes : tells → (k : ℕ) → bodies k ≡ bodied k) where
@@ -310,17 +300,6 @@ module _ (tells : Type 0) (is : LineOutcome) (n : ℕ) (state : GatewayState) (b
 
 pub runs_usage : (tells : Type 0) (o : Outside) → Runs tells status.Usage o o
 runs_usage tells o = record { traffic = no_traffic; moves = Moves-nil o; spoken = spoken_nothing; read = refl; run = λ told k. refl }
-
--- where the files' bodies are at first: none is out
-pub placed_start : (tells : Type 0) (at : ObjectId → ObjectState) → (tells → (k : ℕ) → IsAway (at (body_id k)) → ⊥) → AreBodiesPlaced tells 0 at []
-placed_start tells at h k = subst (λ b. IsBodyPlaced tells b (at (body_id k)) None) (sym (no_file k)) (refl, λ told. h told k)
-  where
-    no_file : (k : ℕ) → is_file 0 k ≡ false
-    no_file k = go (nat_le 4 k) refl
-      where
-        go : (b : Bool) → nat_le 4 k ≡ b → (b && nat_lt k 4) ≡ false
-        go false e = refl
-        go true e = grind (arith, nat_tests)
 
 pub status_read : (is : LineOutcome) (n : ℕ) → status_by is n ≡ status.ReadFault → is ≡ outcome.ReadFault
 status_read outcome.Continue n e = cc

@@ -1,5 +1,5 @@
 // The lines of a transcript.
-ghost use Rattle.std.specs.Prelude.{◌≡◌, ◌↔◌, ◌==◌, ◌<◌, Bool, List, ℕ, Some, length, position, IfOk, IfSome, OnOk, OnErr};
+ghost use Rattle.std.specs.Prelude.{◌≡◌, ◌↔◌, ◌==◌, ◌<◌, List, ℕ, Some, length, position, IfOk, IfSome, OnOk, OnErr};
 ghost use Rattle.std.specs.List.{list_all};
 ghost use Rattle.transcript.specs.Fields.{hex_bytes};
 ghost use Rattle.replay.specs.Grammar.{LinesBefore, IsLine, first_line, is_hung_up, in_name, lines_after};

@@ -5,7 +5,6 @@ ghost use Rattle.append_store.specs.State.{IsAway};
 ghost use Rattle.transcript.specs.Script.{max_lines};
 ghost use Rattle.file_calls.specs.Outside.{body_id};
 ghost use Rattle.nfs_procs.specs.Contexts.{AreBodiesPlaced, AreBodiesSafe, LossesStay, ObjectsStay, StaysThere, file_count, initial_state, store_state};
-ghost use Rattle.replay.specs.Grammar.{first_line};
 ghost use Rattle.gateway.specs.Links.{Links, AreLinks};
 ghost use Rattle.gateway.specs.Steps.{idle_gateway};
 ghost use Rattle.replay.specs.Headline.{Runs};

@@ -1,7 +1,8 @@
 use Rattle.std.proofs.Common.{Some, refl, arith, string_bytes}
 use Rattle.file_calls.specs.Outside.{part_state}
 use Rattle.file_calls.specs.Acts.{ReadFile}
-use Rattle.file_calls.proofs.PartRequests.{always_err, cut_room, step_ok, step_err, read_acts}
+use Rattle.file_calls.proofs.PartRequests.{cut_room, step_ok, step_err, read_acts}
+use Rattle.file_calls.proofs.Results.{always_err}
 use Rattle.file_calls.proofs.part.read_cell.Goals as goal
 
 pub returns-in_err-ticket-clause-err : goal.returns-in_err-ticket-clause-err

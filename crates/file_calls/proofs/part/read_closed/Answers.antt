@@ -1,6 +1,7 @@
 use Rattle.std.proofs.Common.{None, arith, string_bytes}
 use Rattle.file_calls.specs.Outside.{part_state, store_view}
-use Rattle.file_calls.proofs.PartRequests.{always_err, cut_room, step_ok, step_err, stored_step, last_ticket}
+use Rattle.file_calls.proofs.PartRequests.{cut_room, step_ok, step_err, stored_step, last_ticket}
+use Rattle.file_calls.proofs.Results.{always_err}
 use Rattle.file_calls.proofs.part.read_closed.Goals as goal
 
 pub returns-in_err-ticket-clause-err : goal.returns-in_err-ticket-clause-err

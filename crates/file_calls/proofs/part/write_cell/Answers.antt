@@ -1,7 +1,8 @@
 use Rattle.std.proofs.Common.{Some, refl, arith, string_bytes}
 use Rattle.file_calls.specs.Outside.{part_state}
 use Rattle.file_calls.specs.Acts.{WriteFile}
-use Rattle.file_calls.proofs.PartRequests.{always_err, cut_room, step_ok, step_err, write_acts}
+use Rattle.file_calls.proofs.PartRequests.{cut_room, step_ok, step_err, write_acts}
+use Rattle.file_calls.proofs.Results.{always_err}
 use Rattle.file_calls.proofs.part.write_cell.Goals as goal
 
 pub returns-in_err-ticket-clause-err : goal.returns-in_err-ticket-clause-err

@@ -1,8 +1,9 @@
 use Rattle.std.proofs.Common.{◌≡◌, ◌++◌, length, true, false, refl, ◌∙◌, ap, arith, string_bytes}
-use Rattle.gateway.proofs.GatewayEvents.{always_err}
+use Rattle.file_calls.proofs.Results.{always_err}
 use Rattle.nfs_procs.proofs.ContextStores.{objects_same, objects_trans, losses_trans, there_trans}
+use Rattle.rpc_record.proofs.HeardPieces.{less_ahead}
 use Rattle.nfs_procs.specs.Contexts.{store_state}
-use Rattle.gateway.proofs.GatewayPieces.{hears_start, hears_cut, hears_more, hears_fault, hears_fault_cut, hears_faulted_cut, hears_record_cut, hears_served_cut, hears_end, hears_next, less_ahead}
+use Rattle.gateway.proofs.GatewayPieces.{hears_start, hears_cut, hears_more, hears_fault, hears_fault_cut, hears_faulted_cut, hears_record_cut, hears_served_cut, hears_end, hears_next}
 use Rattle.gateway.proofs.gateway.serve_piece.Goals as goal
 
 pub loop-text-init : goal.loop-text-init

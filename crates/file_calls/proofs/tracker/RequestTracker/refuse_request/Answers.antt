@@ -1,6 +1,7 @@
 use Rattle.std.proofs.Common.{None, arith, ap, string_bytes}
 use Rattle.file_calls.specs.Outside.{part_state}
-use Rattle.file_calls.proofs.PartRequests.{always_err, cut_room, step_ok, step_err, refuses}
+use Rattle.file_calls.proofs.PartRequests.{cut_room, step_ok, step_err, refuses}
+use Rattle.file_calls.proofs.Results.{always_err}
 use Rattle.file_calls.proofs.tracker.RequestTracker.refuse_request.Goals as goal
 
 pub returns-in_err-ticket-clause-err : goal.returns-in_err-ticket-clause-err

@@ -1,5 +1,5 @@
 use Rattle.std.proofs.Common.{refl, sym, ◌∙◌}
-use Rattle.gateway.proofs.GatewayEvents.{always_err}
+use Rattle.file_calls.proofs.Results.{always_err}
 use Rattle.nfs_procs.proofs.WorldOperations.{cuts_still}
 use Rattle.gateway.proofs.LinkMap.{piece_received, piece_passed, piece_cut, sets_twice}
 use Rattle.gateway.proofs.gateway.Gateway.receive.Goals as goal

@@ -1,7 +1,7 @@
 use Rattle.std.proofs.Common.{None, false, refl, sym, string_bytes}
 use Rattle.file_calls.specs.Acts.{CloseConnection}
 use Rattle.nfs_procs.specs.Contexts.{ProgramState}
-use Rattle.nfs_procs.proofs.ContextBodies.{with_ok, with_err}
+use Rattle.file_calls.proofs.Results.{with_ok, with_err}
 use Rattle.nfs_procs.proofs.ContextParts.{desk_cut, desk_done, desk_store}
 use Rattle.nfs_procs.proofs.world.World.close_connection.Goals as goal
 

@@ -1,7 +1,8 @@
 use Rattle.std.proofs.Common.{sym, ◌∙◌, string_bytes}
 use Rattle.file_calls.specs.Acts.{ReadFile}
 use Rattle.nfs_procs.specs.Contexts.{store_state}
-use Rattle.nfs_procs.proofs.ContextBodies.{with_ok, with_err, objects_stay, placed_home, stays_there}
+use Rattle.nfs_procs.proofs.ContextBodies.{objects_stay, placed_home, stays_there}
+use Rattle.file_calls.proofs.Results.{with_ok, with_err}
 use Rattle.nfs_procs.proofs.ContextParts.{part_done, part_cut}
 use Rattle.nfs_procs.proofs.world.World.read.Goals as goal
 

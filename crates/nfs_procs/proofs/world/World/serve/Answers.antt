@@ -1,7 +1,7 @@
 use Rattle.std.proofs.Common.{refl, ◌∙◌, sym}
 use Rattle.nfs_procs.specs.World.{Serve}
 use Rattle.nfs_procs.specs.Contexts.{store_state}
-use Rattle.nfs_procs.proofs.ContextBodies.{err_always, with_ok}
+use Rattle.file_calls.proofs.Results.{always_err, with_ok}
 use Rattle.nfs_procs.proofs.world.World.serve.Goals as goal
 
 pub returns-in-Ok-clause-ok : goal.returns-in-Ok-clause-ok
@@ -18,4 +18,4 @@ returns-in_ok-text-in-Err-clause-ok g c =
 
 pub returns-in_err-text-in-Err-clause-err : goal.returns-in_err-text-in-Err-clause-err
 returns-in_err-text-in-Err-clause-err g c =
-    err_always c.from_residual.result (c.in_err-text-in-Err.ensures.err (Serve c.args.conn c.args.message) (c.in-Err.ensures.refused c.args.conn) refl (store_state g.C.Cluster c.args.cluster.now))
+    always_err c.from_residual.result (c.in_err-text-in-Err.ensures.err (Serve c.args.conn c.args.message) (c.in-Err.ensures.refused c.args.conn) refl (store_state g.C.Cluster c.args.cluster.now))

@@ -1,8 +1,8 @@
 use Rattle.std.proofs.Common.{sym, ap, subst}
 use Rattle.file_calls.specs.Acts.{CloseConnection, Reply}
-use Rattle.nfs_procs.specs.Targets.{OnDesk, is_ending, request_target}
+use Rattle.file_requests.specs.Targets.{OnDesk, is_ending, request_target}
 use Rattle.nfs_procs.specs.Contexts.{HasTarget, store_state}
-use Rattle.nfs_procs.proofs.ContextBodies.{err_always}
+use Rattle.file_calls.proofs.Results.{always_err}
 use Rattle.nfs_procs.proofs.world.World.serve_request.Goals as goal
 
 pub returns-in_ok-text-in-Close-clause-ok : goal.returns-in_ok-text-in-Close-clause-ok
@@ -13,7 +13,7 @@ returns-in_ok-text-in-Close-clause-ok g c = λ operation aim.
 pub returns-in_err-text-in-Close-clause-err : goal.returns-in_err-text-in-Close-clause-err
 returns-in_err-text-in-Close-clause-err g c = λ operation aim.
     let at : HasTarget c.args.self.now operation (OnDesk (CloseConnection c.args.conn)) = subst (λ r. HasTarget c.args.self.now operation (request_target c.args.conn r)) c.in-Close.is aim in
-    err_always c.from_residual.result (c.in_err-text-in-Close.ensures.err operation at (store_state g.C.Cluster c.args.cluster.now))
+    always_err c.from_residual.result (c.in_err-text-in-Close.ensures.err operation at (store_state g.C.Cluster c.args.cluster.now))
 
 pub returns-in_ok-text-in-Reply-clause-ok : goal.returns-in_ok-text-in-Reply-clause-ok
 returns-in_ok-text-in-Reply-clause-ok g c = λ operation aim.
@@ -25,4 +25,4 @@ pub returns-in_err-text-in-Reply-clause-err : goal.returns-in_err-text-in-Reply-
 returns-in_err-text-in-Reply-clause-err g c = λ operation aim.
     let asked : HasTarget c.args.self.now operation (OnDesk (Reply c.args.conn c.in-Reply.xid c.in-Reply.reply)) = subst (λ r. HasTarget c.args.self.now operation (request_target c.args.conn r)) c.in-Reply.is aim in
     let at : HasTarget c.args.self.now operation (OnDesk (Reply c.args.conn c.in-Reply.xid c.as_slice.result.now)) = subst (λ x. HasTarget c.args.self.now operation (OnDesk (Reply c.args.conn c.in-Reply.xid x))) (sym c.as_slice.ensures) asked in
-    err_always c.from_residual-in_err-text-in-Reply.result (c.in_err-text-in-Reply.ensures.err operation at (store_state g.C.Cluster c.args.cluster.now))
+    always_err c.from_residual-in_err-text-in-Reply.result (c.in_err-text-in-Reply.ensures.err operation at (store_state g.C.Cluster c.args.cluster.now))

@@ -2,7 +2,8 @@ use Rattle.std.proofs.Common.{refl, string_bytes}
 use Rattle.file_calls.specs.Acts.{TurnFile}
 use Rattle.nfs_procs.specs.World.{TurnOf}
 use Rattle.nfs_procs.specs.Contexts.{body_store}
-use Rattle.nfs_procs.proofs.ContextBodies.{with_ok, with_err, kept_same, placed_same}
+use Rattle.nfs_procs.proofs.ContextBodies.{kept_same, placed_same}
+use Rattle.file_calls.proofs.Results.{with_ok, with_err}
 use Rattle.nfs_procs.proofs.ContextParts.{part_done, part_cut}
 use Rattle.nfs_procs.proofs.world.World.turn.Goals as goal
 

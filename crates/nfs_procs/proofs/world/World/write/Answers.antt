@@ -1,7 +1,8 @@
 use Rattle.std.proofs.Common.{sym, ◌∙◌, string_bytes}
 use Rattle.file_calls.specs.Acts.{WriteFile}
 use Rattle.nfs_procs.specs.Contexts.{store_state}
-use Rattle.nfs_procs.proofs.ContextBodies.{with_ok, with_err, losses_same, objects_stay, placed_home, stays_there}
+use Rattle.nfs_procs.proofs.ContextBodies.{losses_same, objects_stay, placed_home, stays_there}
+use Rattle.file_calls.proofs.Results.{with_ok, with_err}
 use Rattle.nfs_procs.proofs.ContextParts.{part_done, part_cut}
 use Rattle.nfs_procs.proofs.world.World.write.Goals as goal
 

@@ -1,13 +1,11 @@
-use Rattle.std.proofs.Common.{◌≡◌, Some, None, sym, subst, rules, nat_cmp}
-use Rattle.std.specs.BTreeMap.{insert_entry}
+use Rattle.std.proofs.Common.{◌≡◌, None, rules}
 use Rattle.file_calls.specs.Acts.{WriteFile}
 use Rattle.file_calls.specs.PartSteps.{IsCellReady}
 use Rattle.file_calls.specs.Outside.{store_view}
 use Rattle.nfs_procs.specs.World.{entry_at}
-use Rattle.nfs_procs.specs.Contexts.{AreCellsReady}
 use Rattle.nfs_procs.proofs.ContextReady.{inserted_ready}
 use Rattle.nfs_procs.proofs.ContextParts.{always, always_cut, opened_err, opened_ok}
-use Rattle.nfs_procs.proofs.ContextBodies.{with_ok, with_err}
+use Rattle.file_calls.proofs.Results.{with_ok, with_err}
 use Rattle.nfs_procs.proofs.world.World.write_first.Goals as goal
 
 pub returns-in-Some-clause-ok : goal.returns-in-Some-clause-ok

@@ -1,0 +1,3 @@
+pub mod MessageAsked
+pub mod MessageHandles
+pub mod MessageRows

@@ -1,0 +1,3 @@
+pub mod MessageFaults
+pub mod Messages
+pub mod Targets

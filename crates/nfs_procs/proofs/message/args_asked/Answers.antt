@@ -1,7 +1,0 @@
-use Rattle.nfs_procs.proofs.MessageAsked.{asked_else}
-use Rattle.nfs_procs.proofs.message.args_asked.Goals as goal
-
-pub returns : goal.returns
-returns c =
-    let d = c.in_default in
-    rw (asked_else c.args.xid c.args.args d.not-Null d.not-MountNull d.not-Read d.not-Write) c.status_reply-in_default.ensures
