@@ -13,7 +13,7 @@ use Rattle.nfs_types.specs.declared.attr.Attr.{Attr}
 use Rattle.name_tree.specs.declared.edit.Edit.{Edit}
 use Rattle.name_tree.specs.declared.edit.Edit.TheVariants.{Make, Remove, Rename, Set}
 use Rattle.name_tree.specs.Directory.{is_that_id}
-use Rattle.name_tree.specs.Tree.{Node, Tree, child, child_of, edited_tree, edited_tree_if, is_dir, is_dots, is_bare, is_fitting, may_leave, may_move, may_replace, new_node, node, node_in, node_is_dir, root_node, root_tree, tree_after, with_change, with_name, with_new_name, with_new_node, with_parent, with_settings, with_stamp, without_child, without_name, without_node, would_loop}
+use Rattle.name_tree.specs.Tree.{Node, Tree, child, child_of, edited_tree, edited_tree_if, is_dir, is_dots, is_bare, is_fitting, may_leave, may_move, may_replace, new_node, node, node_in, node_is_dir, node_with_size, root_node, root_tree, tree_after, tree_with_size, with_change, with_name, with_new_name, with_new_node, with_parent, with_settings, with_stamp, without_child, without_name, without_node, would_loop}
 use Rattle.name_tree.specs.Table.{node_attr}
 use Rattle.name_tree.specs.Flat.{HasSoundNames, IsSoundTree, KeepsUnfitting, NamesAfter, AttrsAfter, KeepsSound, attr_if, is_here, with_ctime, with_set_attr}
 use Rattle.name_tree.proofs.SortedEntries.{lookup_insert, lookup_remove}
@@ -292,3 +292,17 @@ root_sound = record { ordered = (tt, tt); names = λ d. at_root (nat_cmp d 3); h
     no_child Less q i h = never i h
     no_child Equal q i h = never i h
     no_child Greater q i h = never i h
+
+-- soundness is of the nodes alone
+pub nodes_sound : (ns ms : Nodes) (n m : ℕ) → ms ≡ ns → IsSoundTree (record { nodes = ns; next_id = n }) → IsSoundTree (record { nodes = ms; next_id = m })
+nodes_sound ns ms n m same s = subst (λ (xs : Nodes). IsSoundTree (record { nodes = xs; next_id = m })) (sym same) (record { ordered = s.ordered; names = s.names; homes = s.homes })
+
+-- a size that was told keeps a tree sound
+pub sized_sound : (t : Tree) (id size : ℕ) (changed : Option ℕ) → IsSoundTree t → IsSoundTree (tree_with_size id size changed t)
+sized_sound t id size changed s =
+    let f = node_with_size size changed in
+    record {
+      ordered = ordered_change t.nodes id f s.ordered;
+      names = λ d. keep_sound t.nodes id f (λ m. refl) d (s.names d);
+      homes = λ d q i h. keep_home t.nodes id f (λ m. refl) d i (s.homes d q i (sym (keep_names t.nodes id f (λ m. refl) d q) ∙ h));
+    }

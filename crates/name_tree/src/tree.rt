@@ -4,8 +4,9 @@ ghost use Rattle.std.specs.Option.{option_copied, option_map};
 ghost use Rattle.gw_model.specs.declared.FileId.{FileId};
 ghost use Rattle.name_tree.specs.Tree.{child, entry_after, first_file_without, is_bare, is_below, is_dir, is_dots, is_fitting, may_move, node, parent_of, root_tree, tree_after, tree_past, tree_with_size, would_loop};
 ghost use Rattle.name_tree.specs.Table.{is_same_verifier, node_attr, verifier_in};
+ghost use Rattle.name_tree.specs.Flat.{IsSoundTree};
 ghost use Rattle.name_tree.specs.Listing.{lent_bytes, lent_name_entry, link_path};
-ghost use Rattle.name_tree.specs.Seen.{IsReserved, IsRoomFor, tree_state};
+ghost use Rattle.name_tree.specs.Seen.{IsReserved, IsRoomFor, IsRoomThere, tree_state};
 
 use crate::node::{Node, Room};
 use crate::{Edit, Name, node, rooms};
@@ -30,10 +31,11 @@ impl Model for Tree {
     ghost Value = { TreeState };
 
     ghost use Rattle.name_tree.specs.Seen.{IsRoomThere, tree_state};
+    ghost use Rattle.name_tree.specs.Flat.{IsSoundTree};
 
     ghost view = { λ t. tree_state t.nodes.entries t.next_id t.room };
 
-    ghost invariant = { λ t. IsRoomThere t.nodes.entries t.room };
+    ghost invariant = { λ t. IsRoomThere t.nodes.entries t.room × IsSoundTree (tree_state t.nodes.entries t.next_id t.room).tree };
 }
 
 /// An entry of a directory.
@@ -129,6 +131,68 @@ fn is_fitting(nodes: &BTreeMap<u64, Option<Node>>, next_id: u64, edit: &Edit) ->
             None => false,
         },
         Edit::Set { id, .. } => node::is_there(nodes, *id),
+    }
+}
+
+// Does an edit to the nodes, with the room that was made for it. Takes no memory.
+#[tactic(auto, unfolding(crate::specs::Tree::tree_after))]
+fn edit_nodes(
+    alloc: Global,
+    nodes: &mut BTreeMap<u64, Option<Node>>,
+    next_id: &mut u64,
+    room: Option<Room>,
+    edit: &Edit,
+    moment: u64,
+)
+    requires there { IsRoomThere nodes.old.entries room }
+    requires reserved { IsReserved edit.now (tree_state nodes.old.entries next_id.old room) }
+    ensures tree { (tree_state nodes.new.entries next_id.new None).tree ≡
+        tree_after edit.now moment (tree_state nodes.old.entries next_id.old None).tree }
+{
+    // A call on the map tells that its keys are in order.
+    let _ = nodes.len();
+    if !is_fitting(nodes, *next_id, edit) {
+        node::drop_rooms(nodes, room);
+        return;
+    }
+    let now = Time::of_moment(moment);
+    match edit {
+        Edit::Make {
+            id,
+            kind,
+            mode,
+            uid,
+            gid,
+            atime,
+            mtime,
+            verifier,
+            ..
+        } => {
+            if let Some(room) = room {
+                node::make(
+                    nodes, alloc, room, *kind, *mode, *uid, *gid, *atime, *mtime, *verifier, now,
+                );
+                *next_id = (*next_id).max(id.saturating_add(1));
+            }
+        }
+        Edit::Remove { parent, name } => {
+            node::remove_whole(nodes, *parent, name.bytes(), now);
+        }
+        Edit::Rename { parent, name, .. } => {
+            if let Some(room) = room {
+                node::rename(nodes, *parent, name.bytes(), room, now);
+            }
+        }
+        Edit::Set {
+            id,
+            mode,
+            uid,
+            gid,
+            atime,
+            mtime,
+        } => {
+            node::reset(nodes, *id, *mode, *uid, *gid, *atime, *mtime, now);
+        }
     }
 }
 
@@ -291,6 +355,14 @@ impl Tree {
         }
     }
 
+    /// Each tree that a `Tree` is, is one of which `tree_laws` speaks. Does nothing.
+    pub fn soundness(&self)
+        ensures { IsSoundTree self.now.tree }
+    {
+        // A call on the map tells that its keys are in order.
+        let _ = self.nodes.len();
+    }
+
     /// The number that the next node gets.
     pub fn next_id(&self) -> u64
         ensures { result ≡ self.now.tree.next_id }
@@ -380,67 +452,18 @@ impl Tree {
 
     /// Does an edit for which memory was taken, at a moment in milliseconds. One that doesn't fit changes nothing. Takes no
     /// memory.
-    #[tactic(auto, unfolding(crate::specs::Tree::tree_after))]
     pub fn apply(&mut self, edit: &Edit, moment: u64)
         requires { IsReserved edit.now self.old }
         ensures tree { self.new.tree ≡ tree_after edit.now moment self.old.tree }
     {
-        // A call on the map tells that its keys are in order.
-        let _ = self.nodes.len();
-        let fits = is_fitting(&self.nodes, self.next_id, edit);
         let room = self.room.take();
-        if !fits {
-            node::drop_rooms(&mut self.nodes, room);
-            return;
-        }
-        let now = Time::of_moment(moment);
-        match edit {
-            Edit::Make {
-                id,
-                kind,
-                mode,
-                uid,
-                gid,
-                atime,
-                mtime,
-                verifier,
-                ..
-            } => {
-                if let Some(room) = room {
-                    node::make(
-                        &mut self.nodes,
-                        self.alloc,
-                        room,
-                        *kind,
-                        *mode,
-                        *uid,
-                        *gid,
-                        *atime,
-                        *mtime,
-                        *verifier,
-                        now,
-                    );
-                    self.next_id = self.next_id.max(id.saturating_add(1));
-                }
-            }
-            Edit::Remove { parent, name } => {
-                node::remove_whole(&mut self.nodes, *parent, name.bytes(), now);
-            }
-            Edit::Rename { parent, name, .. } => {
-                if let Some(room) = room {
-                    node::rename(&mut self.nodes, *parent, name.bytes(), room, now);
-                }
-            }
-            Edit::Set {
-                id,
-                mode,
-                uid,
-                gid,
-                atime,
-                mtime,
-            } => {
-                node::reset(&mut self.nodes, *id, *mode, *uid, *gid, *atime, *mtime, now);
-            }
-        }
+        edit_nodes(
+            self.alloc,
+            &mut self.nodes,
+            &mut self.next_id,
+            room,
+            edit,
+            moment,
+        );
     }
 }

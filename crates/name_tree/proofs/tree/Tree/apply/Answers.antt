@@ -1,21 +1,13 @@
-use Rattle.std.proofs.Common.{◌≡◌, ◌∙◌, ap, sym, subst, rules, None, true}
-use Rattle.name_tree.specs.Rooms.{inner}
-use Rattle.std.specs.Map.{lookup}
-use Rattle.name_tree.specs.Tree.{is_fitting}
-use Rattle.name_tree.specs.Views.{IsNameFree}
-use Rattle.name_tree.specs.Seen.{TreeState, tree_state, IsReserved}
-use Rattle.name_tree.specs.declared.edit.Edit.{Edit}
+use Rattle.std.proofs.Common.{sym, subst, None, Option}
+use Rattle.name_tree.specs.Tree.{Tree}
+use Rattle.name_tree.specs.Flat.{IsSoundTree}
+use Rattle.name_tree.specs.Seen.{IsRoomThere, tree_state}
 use Rattle.name_tree.specs.declared.node.Room.{Room}
-use Rattle.name_tree.proofs.RoomEntries.{at}
-use Rattle.name_tree.proofs.TreeNodes.{make_free, same_some}
+use Rattle.name_tree.proofs.FlatLaws.{keeps_sound}
 use Rattle.name_tree.proofs.tree.Tree.apply.Goals as goal
 
-pub make-requires-clause-free : goal.make-requires-clause-free
-make-requires-clause-free c =
-    let m = c.in-Make in
-    let es = c.self.inside.nodes.entries in
-    let fit : is_fitting (tree_state es c.self.inside.next_id None).tree c.args.edit.now ≡ true = search rules in
-    let free = make_free es c.self.inside.next_id m.parent m.id m.kind m.mode m.uid m.gid m.name m.path m.atime m.mtime m.verifier c.len.ensures.ordered (ap (is_fitting (tree_state es c.self.inside.next_id None).tree) (sym m.is) ∙ fit) in
-    let reserved = subst (λ (e : Edit). IsReserved e c.args.self.now) m.is c.requires in
-    let room : c.in-Some.room ≡ record { parent = m.parent; id = m.id; name = m.name; path = m.path } = same_some _ _ (sym c.in-Some.is ∙ (c.take-room.ensures.value ∙ (ap (λ (s : TreeState). s.room) c.self.view_is ∙ reserved))) in
-    subst (λ (r : Room). IsNameFree r.name (inner (lookup (at r.parent) es))) (sym room) free
+pub invariant_of-self : goal.invariant_of-self
+invariant_of-self c =
+    let es = c.edit_nodes.new.nodes.entries in
+    let t = (tree_state c.self.inside.nodes.entries c.self.inside.next_id None).tree in
+    (subst (λ (r : Option Room). IsRoomThere es r) (sym c.take-room.ensures.after) tt, subst (λ (t : Tree). IsSoundTree t) (sym c.edit_nodes.ensures.tree) (keeps_sound c.args.edit.now c.args.moment t c.self.invariant.1))
