@@ -1,0 +1,14 @@
+pub mod EditTexts
+pub mod TornEdits
+pub mod LoggedEdits
+pub mod PutTexts
+pub mod EditSteps
+pub mod LogsAfter
+pub mod CrashedLogs
+pub mod FetchedLogs
+pub mod StartedLogs
+pub mod StoreLogs
+pub mod LastingNodes
+pub mod RunTrees
+pub mod ListedSizes
+mod EditLogRows
