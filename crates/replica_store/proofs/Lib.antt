@@ -1,0 +1,5 @@
+pub mod Files
+pub mod Leading
+pub mod Marking
+pub mod Pairs
+mod Rows
