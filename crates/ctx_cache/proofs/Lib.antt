@@ -1,0 +1,3 @@
+pub mod CacheKeys
+mod Rows
+pub mod UseOrder

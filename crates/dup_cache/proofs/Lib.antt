@@ -1,0 +1,3 @@
+pub mod CallEntries
+pub mod CallLaws
+mod Rows

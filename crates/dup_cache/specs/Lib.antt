@@ -1,0 +1,4 @@
+pub mod CallList
+pub mod Entries
+pub mod Laws
+pub mod Lends
