@@ -124,9 +124,9 @@ fn a_write_in_two_pieces_is_answered_at_its_turn(rt: HostRuntime) -> Result<(), 
     let alloc = rt.alloc();
     let mut cluster = MemCluster::new(alloc, Vec::new(alloc));
     let mut gateway = with_file(alloc, &mut cluster)?;
-    let record = bytes_of(alloc, &WRITE)?;
-    let (half, rest) = record.split_at(50);
-    let texts = texts_of(&mut gateway, [half, rest], &mut cluster)?;
+    let half = bytes_of(alloc, &WRITE[..12])?;
+    let rest = bytes_of(alloc, &WRITE[12..])?;
+    let texts = texts_of(&mut gateway, [&half, &rest], &mut cluster)?;
     assert_eq!(rt; texts[0].as_str(), "");
     assert_eq!(rt; texts[1].as_str(), "");
     assert_eq!(rt; texts[2].as_str(), WROTE);
@@ -141,14 +141,14 @@ fn a_hang_up_forgets_half_a_record(rt: HostRuntime) -> Result<(), Fail> {
     let alloc = rt.alloc();
     let mut cluster = MemCluster::new(alloc, Vec::new(alloc));
     let mut gateway = with_file(alloc, &mut cluster)?;
-    let record = bytes_of(alloc, &WRITE)?;
-    let bytes = Piece::new(&record[..50]);
+    let half = bytes_of(alloc, &WRITE[..12])?;
+    let rest = bytes_of(alloc, &WRITE[12..])?;
+    let bytes = Piece::new(&half);
     let before = text_of(&mut gateway, Event::Bytes { conn: 1, bytes }, &mut cluster)?;
     let hung_up = text_of(&mut gateway, Event::HangUp(1), &mut cluster)?;
     assert_eq!(rt; before.as_str(), "");
     assert_eq!(rt; hung_up.as_str(), "");
-    let (half, rest) = record.split_at(50);
-    let texts = texts_of(&mut gateway, [half, rest], &mut cluster)?;
+    let texts = texts_of(&mut gateway, [&half, &rest], &mut cluster)?;
     assert_eq!(rt; texts[2].as_str(), WROTE);
     Ok(())
 }
