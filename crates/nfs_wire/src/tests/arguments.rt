@@ -1,10 +1,9 @@
-// Arguments, one worked text for each procedure, and what is refused.
+// Arguments: a text for each procedure, and what is refused.
 use crate::{Args, ArgsFault, CreateHow, DirOp, NodeKind, read_args};
 use bytes::Bytes;
 use gw_model::Stable;
 use nfs_types::{Device, SetAttr, SetTime, Time};
-use std::alloc::{AllocError, Global};
-use std::test::Fail;
+use std::alloc::Global;
 
 const NFS: u32 = 100_003;
 
@@ -26,17 +25,53 @@ const UNSET: SetAttr = SetAttr {
     mtime: SetTime::Leave,
 };
 
-fn message(alloc: Global, words: &[u32]) -> Result<Bytes, AllocError> {
-    let mut bytes = Vec::new(alloc);
-    for word in words {
-        bytes.extend_from_slice(&word.to_be_bytes())?;
-    }
-    Bytes::copy_from_slice(alloc, &bytes)
-}
+const MODE_ALONE: SetAttr = SetAttr {
+    mode: Some(0o600),
+    uid: None,
+    gid: None,
+    size: None,
+    atime: SetTime::Leave,
+    mtime: SetTime::Leave,
+};
 
-fn read(alloc: Global, prog: u32, proc_no: u32, words: &[u32]) -> Result<Args, Fail> {
-    Ok(read_args(alloc, prog, proc_no, message(alloc, words)?)?)
-}
+const GUARD: Time = Time {
+    seconds: 5,
+    nanos: 6,
+};
+
+// The program, the procedure, and a text of its arguments.
+const TEXTS: [(u32, u32, &[u32]); 28] = [
+    (NFS, 0, &[]),
+    (NFS, 1, &[4, HAND]),
+    // mode 0600, and a guard of 5 s and 6 ns
+    (NFS, 2, &[4, HAND, 1, 0o600, 0, 0, 0, 0, 0, 1, 5, 6]),
+    (NFS, 3, &[4, HAND, 3, OLD]),
+    (NFS, 4, &[4, HAND, 31]),
+    (NFS, 5, &[4, HAND]),
+    (NFS, 6, &[4, HAND, 1, 7, 9]),
+    // five bytes at 7, to be durable before the answer; the padding isn't zero
+    (NFS, 7, &[4, HAND, 0, 7, 5, 2, 5, 0x6162_6364, 0x6501_0203]),
+    (NFS, 8, &[4, HAND, 3, OLD, 0, 0, 0, 0, 0, 0, 0]),
+    (NFS, 9, &[4, HAND, 3, OLD, 0, 0, 0, 0, 0, 0]),
+    (NFS, 10, &[4, HAND, 3, OLD, 0, 0, 0, 0, 0, 0, 3, NEW]),
+    (NFS, 11, &[4, HAND, 3, OLD, 3, 0, 0, 0, 0, 0, 0, 8, 9]),
+    (NFS, 12, &[4, HAND, 3, OLD]),
+    (NFS, 13, &[4, HAND, 3, OLD]),
+    (NFS, 14, &[4, HAND, 3, OLD, 4, HAND, 3, NEW]),
+    (NFS, 15, &[4, HAND, 4, HAND, 3, NEW]),
+    (NFS, 16, &[4, HAND, 0, 3, 0, 4, 512]),
+    (NFS, 17, &[4, HAND, 0, 3, 0, 4, 512, 1024]),
+    (NFS, 18, &[4, HAND]),
+    (NFS, 19, &[4, HAND]),
+    (NFS, 20, &[4, HAND]),
+    (NFS, 21, &[4, HAND, 1, 7, 9]),
+    (MOUNT, 0, &[]),
+    (MOUNT, 1, &[3, OLD]),
+    (MOUNT, 2, &[]),
+    (MOUNT, 3, &[3, NEW]),
+    (MOUNT, 4, &[]),
+    (MOUNT, 5, &[]),
+];
 
 fn is_hand(handle: &Bytes) -> bool {
     handle.as_slice() == b"hand".as_slice()
@@ -50,94 +85,64 @@ fn is_new(place: &DirOp) -> bool {
     is_hand(&place.dir) && place.name.as_slice() == b"new".as_slice()
 }
 
-#[test]
-fn handles(rt: HostRuntime) -> Result<(), Fail> {
-    let alloc = rt.alloc();
-    let hand = [4, HAND];
-    assert!(rt; matches!(read(alloc, NFS, 0, &[])?, Args::Null));
-    assert!(rt;
-        matches!(&read(alloc, NFS, 1, &hand)?, Args::Getattr { handle } if is_hand(handle))
-    );
-    assert!(rt;
-        matches!(&read(alloc, NFS, 5, &hand)?, Args::Readlink { handle } if is_hand(handle))
-    );
-    assert!(rt;
-        matches!(&read(alloc, NFS, 18, &hand)?, Args::Fsstat { handle } if is_hand(handle))
-    );
-    assert!(rt;
-        matches!(&read(alloc, NFS, 19, &hand)?, Args::Fsinfo { handle } if is_hand(handle))
-    );
-    assert!(rt;
-        matches!(&read(alloc, NFS, 20, &hand)?, Args::Pathconf { handle } if is_hand(handle))
-    );
-    let access = read(alloc, NFS, 4, &[4, HAND, 31])?;
-    assert!(rt; matches!(&access, Args::Access { handle, mask: 31 } if is_hand(handle)));
-    Ok(())
-}
-
-// Mode 0600, and a guard of 5 s and 6 ns.
-#[test]
-fn setattr(rt: HostRuntime) -> Result<(), Fail> {
-    let words = [4, HAND, 1, 0o600, 0, 0, 0, 0, 0, 1, 5, 6];
-    match &read(rt.alloc(), NFS, 2, &words)? {
-        Args::Setattr { handle, set, guard } => {
-            assert!(rt; is_hand(handle));
-            assert_eq!(rt; set.mode, Some(0o600));
-            assert_eq!(rt; set.size, None);
-            assert_eq!(rt; set.mtime, SetTime::Leave);
-            let time = Time {
-                seconds: 5,
-                nanos: 6,
-            };
-            assert_eq!(rt; *guard, Some(time));
-        }
-        _ => assert!(rt; false),
+// Whether these are the arguments that the procedure's text has.
+fn is_told(prog: u32, proc_no: u32, args: &Args) -> bool {
+    if prog == MOUNT {
+        is_of_mount(proc_no, args)
+    } else {
+        is_of_handle(proc_no, args)
+            || is_of_name(proc_no, args)
+            || is_of_range(proc_no, args)
+            || is_of_making(proc_no, args)
     }
-    Ok(())
 }
 
-#[test]
-fn names(rt: HostRuntime) -> Result<(), Fail> {
-    let alloc = rt.alloc();
-    let old = [4, HAND, 3, OLD];
-    assert!(rt; matches!(&read(alloc, NFS, 3, &old)?, Args::Lookup { place } if is_old(place)));
-    assert!(rt; matches!(&read(alloc, NFS, 12, &old)?, Args::Remove { place } if is_old(place)));
-    assert!(rt; matches!(&read(alloc, NFS, 13, &old)?, Args::Rmdir { place } if is_old(place)));
-    let rename = read(alloc, NFS, 14, &[4, HAND, 3, OLD, 4, HAND, 3, NEW])?;
-    assert!(rt; matches!(&rename, Args::Rename { from, to } if is_old(from) && is_new(to)));
-    let link = read(alloc, NFS, 15, &[4, HAND, 4, HAND, 3, NEW])?;
-    assert!(rt; matches!(&link, Args::Link { handle, place } if is_hand(handle) && is_new(place)));
-    Ok(())
+fn is_of_mount(proc_no: u32, args: &Args) -> bool {
+    match args {
+        Args::MountNull => proc_no == 0,
+        Args::Mnt { path } => proc_no == 1 && path.as_slice() == b"old".as_slice(),
+        Args::Dump => proc_no == 2,
+        Args::Umnt { path } => proc_no == 3 && path.as_slice() == b"new".as_slice(),
+        Args::Umntall => proc_no == 4,
+        Args::Export => proc_no == 5,
+        _ => false,
+    }
 }
 
-#[test]
-fn ranges(rt: HostRuntime) -> Result<(), Fail> {
-    let alloc = rt.alloc();
-    let range = [4, HAND, 1, 7, 9];
-    match &read(alloc, NFS, 6, &range)? {
+fn is_of_handle(proc_no: u32, args: &Args) -> bool {
+    match args {
+        Args::Null => proc_no == 0,
+        Args::Getattr { handle } => proc_no == 1 && is_hand(handle),
+        Args::Setattr { handle, set, guard } => {
+            proc_no == 2 && is_hand(handle) && *set == MODE_ALONE && *guard == Some(GUARD)
+        }
+        Args::Access { handle, mask } => proc_no == 4 && is_hand(handle) && *mask == 31,
+        Args::Readlink { handle } => proc_no == 5 && is_hand(handle),
+        Args::Fsstat { handle } => proc_no == 18 && is_hand(handle),
+        Args::Fsinfo { handle } => proc_no == 19 && is_hand(handle),
+        Args::Pathconf { handle } => proc_no == 20 && is_hand(handle),
+        _ => false,
+    }
+}
+
+fn is_of_name(proc_no: u32, args: &Args) -> bool {
+    match args {
+        Args::Lookup { place } => proc_no == 3 && is_old(place),
+        Args::Remove { place } => proc_no == 12 && is_old(place),
+        Args::Rmdir { place } => proc_no == 13 && is_old(place),
+        Args::Rename { from, to } => proc_no == 14 && is_old(from) && is_new(to),
+        Args::Link { handle, place } => proc_no == 15 && is_hand(handle) && is_new(place),
+        _ => false,
+    }
+}
+
+fn is_of_range(proc_no: u32, args: &Args) -> bool {
+    match args {
         Args::Read {
             handle,
             offset,
             count,
-        } => {
-            assert!(rt; is_hand(handle));
-            assert_eq!(rt; *offset, 0x1_0000_0007);
-            assert_eq!(rt; *count, 9);
-        }
-        _ => assert!(rt; false),
-    }
-    let commit = read(alloc, NFS, 21, &range)?;
-    assert!(rt;
-        matches!(&commit, Args::Commit { handle, offset: 0x1_0000_0007, count: 9 } if is_hand(handle))
-    );
-    Ok(())
-}
-
-// Five bytes at 7, to be durable before the answer; the padding isn't zero.
-#[test]
-fn write(rt: HostRuntime) -> Result<(), Fail> {
-    let words = [4, HAND, 0, 7, 5, 2, 5, 0x6162_6364, 0x6501_0203];
-    match &read(rt.alloc(), NFS, 7, &words)? {
+        } => proc_no == 6 && is_hand(handle) && *offset == 0x1_0000_0007 && *count == 9,
         Args::Write {
             handle,
             offset,
@@ -145,132 +150,149 @@ fn write(rt: HostRuntime) -> Result<(), Fail> {
             stable,
             data,
         } => {
-            assert!(rt; is_hand(handle));
-            assert_eq!(rt; *offset, 7);
-            assert_eq!(rt; *count, 5);
-            assert_eq!(rt; *stable, Stable::FileSync);
-            assert_eq!(rt; data.as_slice(), b"abcde".as_slice());
+            proc_no == 7
+                && is_hand(handle)
+                && (*offset, *count, *stable) == (7, 5, Stable::FileSync)
+                && data.as_slice() == b"abcde".as_slice()
         }
-        _ => assert!(rt; false),
-    }
-    Ok(())
-}
-
-#[test]
-fn makings(rt: HostRuntime) -> Result<(), Fail> {
-    let alloc = rt.alloc();
-    let unchecked = read(alloc, NFS, 8, &[4, HAND, 3, OLD, 0, 0, 0, 0, 0, 0, 0])?;
-    assert!(rt;
-        matches!(&unchecked, Args::Create { place, how: CreateHow::Unchecked(set) } if is_old(place) && *set == UNSET)
-    );
-    let exclusive = read(alloc, NFS, 8, &[4, HAND, 3, OLD, 2, 1, 2])?;
-    assert!(rt;
-        matches!(
-            &exclusive,
-            Args::Create {
-                how: CreateHow::Exclusive([0, 0, 0, 1, 0, 0, 0, 2]),
-                ..
-            }
-        )
-    );
-    let mkdir = read(alloc, NFS, 9, &[4, HAND, 3, OLD, 0, 0, 0, 0, 0, 0])?;
-    assert!(rt; matches!(&mkdir, Args::Mkdir { place, set } if is_old(place) && *set == UNSET));
-    let symlink = read(alloc, NFS, 10, &[4, HAND, 3, OLD, 0, 0, 0, 0, 0, 0, 3, NEW])?;
-    assert!(rt;
-        matches!(&symlink, Args::Symlink { path, .. } if path.as_slice() == b"new".as_slice())
-    );
-    let block = read(
-        alloc,
-        NFS,
-        11,
-        &[4, HAND, 3, OLD, 3, 0, 0, 0, 0, 0, 0, 8, 9],
-    )?;
-    let device = Device { major: 8, minor: 9 };
-    assert!(rt;
-        matches!(&block, Args::Mknod { kind: NodeKind::Block(set, at), .. } if *set == UNSET && *at == device)
-    );
-    let regular = read(alloc, NFS, 11, &[4, HAND, 3, OLD, 1])?;
-    assert!(rt;
-        matches!(
-            &regular,
-            Args::Mknod {
-                kind: NodeKind::Regular,
-                ..
-            }
-        )
-    );
-    Ok(())
-}
-
-#[test]
-fn listings(rt: HostRuntime) -> Result<(), Fail> {
-    let alloc = rt.alloc();
-    match &read(alloc, NFS, 16, &[4, HAND, 0, 3, 0, 4, 512])? {
         Args::Readdir {
             handle,
             cookie,
             verifier,
             count,
         } => {
-            assert!(rt; is_hand(handle));
-            assert_eq!(rt; *cookie, 3);
-            assert_eq!(rt; *verifier, [0, 0, 0, 0, 0, 0, 0, 4]);
-            assert_eq!(rt; *count, 512);
+            proc_no == 16
+                && is_hand(handle)
+                && (*cookie, *count) == (3, 512)
+                && *verifier == [0, 0, 0, 0, 0, 0, 0, 4]
         }
-        _ => assert!(rt; false),
+        Args::Readdirplus {
+            handle,
+            cookie,
+            verifier,
+            dircount,
+            maxcount,
+        } => {
+            proc_no == 17
+                && is_hand(handle)
+                && (*cookie, *dircount, *maxcount) == (3, 512, 1024)
+                && *verifier == [0, 0, 0, 0, 0, 0, 0, 4]
+        }
+        Args::Commit {
+            handle,
+            offset,
+            count,
+        } => proc_no == 21 && is_hand(handle) && *offset == 0x1_0000_0007 && *count == 9,
+        _ => false,
     }
-    let plus = read(alloc, NFS, 17, &[4, HAND, 0, 3, 0, 4, 512, 1024])?;
-    assert!(rt;
-        matches!(
-            &plus,
-            Args::Readdirplus {
-                cookie: 3,
-                dircount: 512,
-                maxcount: 1024,
-                ..
-            }
-        )
-    );
-    Ok(())
+}
+
+fn is_of_making(proc_no: u32, args: &Args) -> bool {
+    match args {
+        Args::Create {
+            place,
+            how: CreateHow::Unchecked(set),
+        } => proc_no == 8 && is_old(place) && *set == UNSET,
+        Args::Mkdir { place, set } => proc_no == 9 && is_old(place) && *set == UNSET,
+        Args::Symlink { place, set, path } => {
+            proc_no == 10 && is_old(place) && *set == UNSET && path.as_slice() == b"new".as_slice()
+        }
+        Args::Mknod {
+            place,
+            kind: NodeKind::Block(set, device),
+        } => {
+            proc_no == 11
+                && is_old(place)
+                && *set == UNSET
+                && *device == Device { major: 8, minor: 9 }
+        }
+        _ => false,
+    }
+}
+
+// The arguments that the words spell.
+fn read(alloc: Global, prog: u32, proc_no: u32, words: &[u32]) -> Result<Args, ArgsFault> {
+    let mut text = Vec::new(alloc);
+    for word in words {
+        text.extend_from_slice(&word.to_be_bytes())?;
+    }
+    read_args(alloc, prog, proc_no, Bytes::copy_from_slice(alloc, &text)?)
+}
+
+fn is_read(alloc: Global, prog: u32, proc_no: u32, words: &[u32]) -> bool {
+    match read(alloc, prog, proc_no, words) {
+        Ok(args) => is_told(prog, proc_no, &args),
+        Err(_) => false,
+    }
 }
 
 #[test]
-fn mounts(rt: HostRuntime) -> Result<(), Fail> {
-    let alloc = rt.alloc();
-    assert!(rt; matches!(read(alloc, MOUNT, 0, &[])?, Args::MountNull));
-    let mnt = read(alloc, MOUNT, 1, &[3, OLD])?;
-    assert!(rt; matches!(&mnt, Args::Mnt { path } if path.as_slice() == b"old".as_slice()));
-    assert!(rt; matches!(read(alloc, MOUNT, 2, &[])?, Args::Dump));
-    let umnt = read(alloc, MOUNT, 3, &[3, NEW])?;
-    assert!(rt; matches!(&umnt, Args::Umnt { path } if path.as_slice() == b"new".as_slice()));
-    assert!(rt; matches!(read(alloc, MOUNT, 4, &[])?, Args::Umntall));
-    assert!(rt; matches!(read(alloc, MOUNT, 5, &[])?, Args::Export));
-    Ok(())
+fn texts(rt: HostRuntime) {
+    for (prog, proc_no, words) in TEXTS {
+        assert!(rt;
+            is_read(rt.alloc(), prog, proc_no, words),
+            "procedure {proc_no} of {prog}"
+        );
+    }
 }
 
-// The procedure, words that aren't its arguments, and where they aren't.
-const GARBAGE: [(u32, &[u32], usize); 11] = [
-    (0, &[0], 0),
-    (1, &[4], 0),
-    (1, &[65], 0),
-    (1, &[4, HAND, 0], 8),
-    (2, &[4, HAND, 2], 8),
-    (3, &[4, HAND, 4097], 8),
-    (7, &[4, HAND, 0, 7, 5, 3], 20),
-    (7, &[4, HAND, 0, 7, 5, 2, 1_048_577], 24),
-    (8, &[4, HAND, 3, OLD, 3], 16),
-    (11, &[4, HAND, 3, OLD, 8], 16),
-    (22, &[], 0),
+// Whether this is a creation with this verifier.
+fn has_verifier(args: &Args, wanted: &[u8; 8]) -> bool {
+    match args {
+        Args::Create {
+            how: CreateHow::Exclusive(verifier),
+            ..
+        } => verifier.as_slice() == wanted.as_slice(),
+        _ => false,
+    }
+}
+
+#[test]
+fn exclusive_creation(rt: HostRuntime) {
+    match read(rt.alloc(), NFS, 8, &[4, HAND, 3, OLD, 2, 1, 2]) {
+        Ok(args) => assert!(rt; has_verifier(&args, &[0, 0, 0, 1, 0, 0, 0, 2])),
+        Err(_) => assert!(rt; false),
+    }
+}
+
+#[test]
+fn node_without_attributes(rt: HostRuntime) {
+    let read = read(rt.alloc(), NFS, 11, &[4, HAND, 3, OLD, 1]);
+    assert!(rt;
+        matches!(
+            read,
+            Ok(Args::Mknod {
+                kind: NodeKind::Regular,
+                ..
+            })
+        )
+    );
+}
+
+// The program, the procedure, words that aren't its arguments, and where they aren't.
+const GARBAGE: [(u32, u32, &[u32], usize); 12] = [
+    (NFS, 0, &[0], 0),
+    (NFS, 1, &[4], 0),
+    (NFS, 1, &[65], 0),
+    (NFS, 1, &[4, HAND, 0], 8),
+    (NFS, 2, &[4, HAND, 2], 8),
+    (NFS, 3, &[4, HAND, 4097], 8),
+    (NFS, 7, &[4, HAND, 0, 7, 5, 3], 20),
+    (NFS, 7, &[4, HAND, 0, 7, 5, 2, 1_048_577], 24),
+    (NFS, 8, &[4, HAND, 3, OLD, 3], 16),
+    (NFS, 11, &[4, HAND, 3, OLD, 8], 16),
+    (NFS, 22, &[], 0),
+    (100_004, 0, &[], 0),
 ];
 
 #[test]
-fn garbage(rt: HostRuntime) -> Result<(), Fail> {
-    let alloc = rt.alloc();
-    for (proc_no, words, place) in GARBAGE {
-        let fault = read_args(alloc, NFS, proc_no, message(alloc, words)?).err();
-        assert_eq!(rt; fault, Some(ArgsFault::Garbage { place }));
+fn garbage(rt: HostRuntime) {
+    for (prog, proc_no, words, place) in GARBAGE {
+        let fault = read(rt.alloc(), prog, proc_no, words).err();
+        assert_eq!(rt;
+            fault,
+            Some(ArgsFault::Garbage { place }),
+            "procedure {proc_no} of {prog}"
+        );
     }
-    let unknown = read_args(alloc, 100_004, 0, message(alloc, &[])?).err();
-    assert_eq!(rt; unknown, Some(ArgsFault::Garbage { place: 0 }));
-    Ok(())
 }
