@@ -25,7 +25,7 @@ import tempfile
 
 import uploads
 
-# What both programs have: the number that a word spells, and the name of a number.
+# What both programs have: the number that a word spells, the name of a number, and `main`, which runs with two numbers.
 COMMON = r"""
 fn number(word: &str) -> u32 {
     let mut n: u32 = 0;
@@ -49,6 +49,21 @@ fn name_of(first: u8, i: u32) -> [u8; 11] {
     }
     name
 }
+
+fn main(rt: HostRuntime) -> ExitCode {
+    let alloc = rt.alloc();
+    let Ok(all) = env::args(&rt) else {
+        return ExitCode::from(1);
+    };
+    let words: Vec<String> = match all.skip(1).collect(alloc) {
+        Ok(words) => words,
+        Err(_) => return ExitCode::from(2),
+    };
+    if words.len() != 2 {
+        return ExitCode::from(3);
+    }
+    run(alloc, number(words[0].as_str()), number(words[1].as_str()))
+}
 """
 
 NAMES = r"""//! Files in the root: made, looked up, listed, renamed and removed. Two words: how many, and how many of these parts.
@@ -60,6 +75,7 @@ use gw_model::FileId;
 use name_tree::{How, Judged, NameRequest, Tree};
 use nfs_types::{SetAttr, SetTime};
 use rpc_msg::Caller;
+use std::alloc::Global;
 use std::env;
 use std::process::ExitCode;
 
@@ -166,20 +182,7 @@ fn removes(tree: &mut Tree, count: u32) -> u32 {
     done
 }
 
-fn main(rt: HostRuntime) -> ExitCode {
-    let alloc = rt.alloc();
-    let Ok(all) = env::args(&rt) else {
-        return ExitCode::from(1);
-    };
-    let words: Vec<String> = match all.skip(1).collect(alloc) {
-        Ok(words) => words,
-        Err(_) => return ExitCode::from(2),
-    };
-    if words.len() != 2 {
-        return ExitCode::from(3);
-    }
-    let count = number(words[0].as_str());
-    let parts = number(words[1].as_str());
+fn run(alloc: Global, count: u32, parts: u32) -> ExitCode {
     let Ok(mut tree) = Tree::new(alloc) else {
         return ExitCode::from(4);
     };
@@ -292,20 +295,7 @@ fn next_id_of<C: Cluster>(alloc: Global, cluster: &mut C) -> u64
     }
 }
 
-fn main(rt: HostRuntime) -> ExitCode {
-    let alloc = rt.alloc();
-    let Ok(all) = env::args(&rt) else {
-        return ExitCode::from(1);
-    };
-    let words: Vec<String> = match all.skip(1).collect(alloc) {
-        Ok(words) => words,
-        Err(_) => return ExitCode::from(2),
-    };
-    if words.len() != 2 {
-        return ExitCode::from(3);
-    }
-    let count = number(words[0].as_str());
-    let starts = number(words[1].as_str());
+fn run(alloc: Global, count: u32, starts: u32) -> ExitCode {
     let mut cluster = MemCluster::new(alloc, Vec::new(alloc));
     if !logs(&mut cluster, &texts_of(alloc, count)) {
         return ExitCode::from(4);

@@ -11,15 +11,6 @@ const BODY: ObjectId = ObjectId::Body {
     version: 1,
 };
 
-// The call of this number on the body is to fail, and keeps 3 bytes if it is an append.
-fn fails_at(call: u64) -> Planned {
-    Planned {
-        object: Some(BODY),
-        call,
-        kept: 3,
-    }
-}
-
 // Makes the body in a store where nothing is.
 fn makes_body<C: Cluster>(cluster: &mut C) -> bool
     requires { C.File.tells → (q : ObjectId) → C.at cluster.old q ≡ Missing }
@@ -52,78 +43,27 @@ fn keeps_what_is_appended(rt: HostRuntime) -> Result<(), Fail> {
     assert_eq!(rt; file.len(), 5);
     lent.give_file(BODY, file);
     assert_eq!(rt; cluster.content_of(BODY), Some(b"abcde".as_slice()));
-    assert_eq!(rt; cluster.create(BODY), Ok(()));
-    assert_eq!(rt; cluster.content_of(BODY), Some(b"abcde".as_slice()));
     assert_eq!(rt; cluster.faults(), 0);
     Ok(())
 }
 
-// Calls 1 and 2 are the create and the taking.
-#[test]
-fn keeps_the_front_at_a_planned_append(rt: HostRuntime) -> Result<(), Fail> {
-    let alloc = rt.alloc();
-    let mut cluster = MemCluster::new(alloc, vec![in alloc; fails_at(3)]?);
-    let mut file = taken_anew(&mut cluster)?;
-    assert_eq!(rt; file.append(b"abcde"), Err(AppendFault { kept: 3 }));
-    assert_eq!(rt; file.faults(), 1);
-    assert_eq!(rt; file.append(b"xy"), Ok(()));
-    cluster.give_file(BODY, file);
-    assert_eq!(rt; cluster.content_of(BODY), Some(b"abcxy".as_slice()));
-    assert_eq!(rt; cluster.faults(), 1);
-    assert_eq!(rt; cluster.planned(), 1);
-    assert_eq!(rt; cluster.starved(), 0);
-    Ok(())
-}
-
-#[test]
-fn fails_a_planned_create_and_a_planned_taking(rt: HostRuntime) -> Result<(), Fail> {
-    let alloc = rt.alloc();
-    let mut cluster = MemCluster::new(alloc, vec![in alloc; fails_at(1)]?);
-    assert_eq!(rt; cluster.create(BODY), Err(CreateFault::Fault));
-    assert_eq!(rt; cluster.content_of(BODY), None);
-    assert_eq!(rt; cluster.create(BODY), Ok(()));
-    assert_eq!(rt; cluster.faults(), 1);
-    let mut cluster = MemCluster::new(alloc, vec![in alloc; fails_at(2)]?);
-    cluster.create(BODY).map_err(|_| "created")?;
-    assert_eq!(rt; cluster.take_file(BODY).map(|_| ()), Err(StoreFault));
-    assert_eq!(rt; cluster.take_file(BODY).map(|_| ()), Ok(()));
-    assert_eq!(rt; cluster.content_of(BODY), None);
-    assert_eq!(rt; cluster.faults(), 1);
-    Ok(())
-}
-
-// Call 3 is the append.
 #[test]
 fn reads_and_syncs(rt: HostRuntime) -> Result<(), Fail> {
     let alloc = rt.alloc();
-    let mut cluster = MemCluster::new(alloc, vec![in alloc; fails_at(4), fails_at(6)]?);
+    let mut cluster = MemCluster::new(alloc, Vec::new(alloc));
     let mut file = taken_anew(&mut cluster)?;
     assert_eq!(rt; file.append(b"abcde"), Ok(()));
-    assert_eq!(rt; file.hsync(), Err(StoreFault));
     assert_eq!(rt; file.hsync(), Ok(()));
     let mut out = *b"----";
-    assert_eq!(rt; file.read_at(1, &mut out), Err(StoreFault));
-    assert_eq!(rt; file.read_at(1, &mut out), Ok(4));
-    assert_eq!(rt; out.as_slice(), b"bcde".as_slice());
     assert_eq!(rt; file.read_at(4, &mut out), Ok(1));
-    assert_eq!(rt; out.as_slice(), b"ecde".as_slice());
-    assert_eq!(rt; file.read_at(u64::MAX, &mut out), Ok(0));
-    assert_eq!(rt; out.as_slice(), b"ecde".as_slice());
-    assert_eq!(rt; file.faults(), 2);
+    assert_eq!(rt; out.as_slice(), b"e---".as_slice());
     Ok(())
 }
 
-// Of the calls on the store as a whole, the first is planned to fail.
 #[test]
 fn lists_what_is_there(rt: HostRuntime) -> Result<(), Fail> {
     let alloc = rt.alloc();
-    let first = Planned {
-        object: None,
-        call: 1,
-        kept: 0,
-    };
-    let mut cluster = MemCluster::new(alloc, vec![in alloc; first]?);
-    assert_eq!(rt; cluster.list().map(|_| ()), Err(ListFault::Fault));
+    let mut cluster = MemCluster::new(alloc, Vec::new(alloc));
     assert!(rt; makes_body(&mut cluster));
     let all = cluster.list().map_err(|_| "listed")?;
     let body = KeptObject {
@@ -131,7 +71,6 @@ fn lists_what_is_there(rt: HostRuntime) -> Result<(), Fail> {
         length: 0,
     };
     assert_eq!(rt; all.as_slice(), [body].as_slice());
-    assert_eq!(rt; cluster.faults(), 1);
     Ok(())
 }
 

