@@ -11,4 +11,6 @@ pub mod StoreLogs
 pub mod LastingNodes
 pub mod RunTrees
 pub mod ListedSizes
+pub mod JudgedEdits
+pub mod JudgeableTrees
 mod EditLogRows

@@ -131,7 +131,7 @@ edit_most (Remove parent name) n most = most
 edit_most (Rename dir name to to_name) n most = most
 edit_most (Set id mode uid gid atime mtime) n most = most
 
-recoverable_after : (e : Edit) (moment : ℕ) (t : Tree) → IsRecoverable t → IsRecoverable (tree_after e moment t)
+pub recoverable_after : (e : Edit) (moment : ℕ) (t : Tree) → IsRecoverable t → IsRecoverable (tree_after e moment t)
 unfolding tree_after
 recoverable_after e moment t r = record {
   sound = keeps_sound e moment t r.sound;
@@ -147,7 +147,7 @@ recoverable_after e moment t r = record {
     passed true i = edit_passed e (moment_time moment) t i r
     passed false i = r.passed i
 
-recoverable_past : (id : ℕ) (t : Tree) → IsRecoverable t → IsRecoverable (tree_past id t)
+pub recoverable_past : (id : ℕ) (t : Tree) → IsRecoverable t → IsRecoverable (tree_past id t)
 recoverable_past id t r = record {
   sound = record { ordered = r.sound.ordered; names = r.sound.names; homes = r.sound.homes };
   most = past_most id t.next_id;
@@ -158,7 +158,7 @@ recoverable_past id t r = record {
     go i (inl none) = inl none
     go i (inr p) = inr (past_both i id t.next_id p)
 
-recoverable_sized : (id size : ℕ) (changed : Option ℕ) (t : Tree) → IsRecoverable t → IsRecoverable (tree_with_size id size changed t)
+pub recoverable_sized : (id size : ℕ) (changed : Option ℕ) (t : Tree) → IsRecoverable t → IsRecoverable (tree_with_size id size changed t)
 recoverable_sized id size changed t r = record {
   sound = sized_sound t id size changed r.sound;
   most = r.most;
@@ -292,7 +292,7 @@ recoverable_edits (e ∷ es) t r = recoverable_edits es (tree_with_edit e t) (re
 abbrev found : Tree → Result Tree Refusal
 found t = Ok t
 
-same_tree : (t u : Tree) → found t ≡ found u → t ≡ u
+pub same_tree : (t u : Tree) → found t ≡ found u → t ≡ u
 same_tree t u h = cc
 
 recoverable_logs : (ls : List (ℕ × List ℕ)) (t u : Tree) → IsRecoverable t → tree_after_logs ls t ≡ Ok u → IsRecoverable u
@@ -304,7 +304,7 @@ recoverable_logs (l ∷ ls) t u r h = go (edits_of l.1) h (λ v s i. recoverable
     go (Edits es) h rest = rest (tree_with_edits es t) (recoverable_edits es t r) h
     go (DamagedAt place) h rest = absurd (cc)
 
-recoverable_root : IsRecoverable root_tree
+pub recoverable_root : IsRecoverable root_tree
 recoverable_root = record { sound = root_sound; most = omega arith; passed = λ i. go i (nat_cmp i 3) refl }
   where
     go : (i : ℕ) (o : Ordering) → nat_cmp i 3 ≡ o → (cond (is_eq o) (Some root_node) None ≡ None) ⊎ (id_past i 4 ≤ 4)

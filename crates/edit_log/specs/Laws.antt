@@ -1,5 +1,5 @@
 -- What the definitions mean for one another.
-use Rattle.std.specs.Prelude.{◌≡◌, ◌≢◌, ◌⊎◌, ℕ, ◌<◌, ◌≤◌, ◌+◌, List, ◌++◌, ◌∷◌, [], length, take, Option, Ok, Err}
+use Rattle.std.specs.Prelude.{true, ◌≡◌, ◌≢◌, ◌⊎◌, ℕ, ◌<◌, ◌≤◌, ◌+◌, List, ◌++◌, ◌∷◌, [], length, take, Option, Ok, Err}
 use Rattle.std.specs.List.{AllByRecursion}
 use Rattle.xdr.specs.Rows.{text}
 use Rattle.append_store.specs.State.{ObjectState, Missing, Kept, Lent, IsCrashImage, IsThere, bytes_of}
@@ -7,12 +7,12 @@ use Rattle.append_store.specs.Calls.{IsRising, Lists}
 use Rattle.gw_model.specs.declared.object.KeptObject.{KeptObject}
 use Rattle.gw_model.specs.declared.object.ObjectId.{ObjectId}
 use Rattle.gw_model.specs.declared.object.ObjectId.TheVariants.{Log}
-use Rattle.name_tree.specs.Tree.{Tree, root_tree}
+use Rattle.name_tree.specs.Tree.{Tree, is_fitting, root_tree}
 use Rattle.name_tree.specs.declared.edit.Edit.{Edit}
 use Rattle.edit_log.specs.declared.gauge.Cut.TheVariants.{Torn}
 use Rattle.edit_log.specs.Edits.{Edits, InRange, ReadsUpTo, edit_of, edit_row, edit_text, edit_texts, edits_of, header, written_edit, written_edits}
 use Rattle.edit_log.specs.Log.{Holds}
-use Rattle.edit_log.specs.Run.{AreFitting, Does, HasSizeOf, IsRecoverable, IsRecovered, TreeStep, edits_of_steps, lasting_nodes, tree_after_steps}
+use Rattle.edit_log.specs.Run.{AreFitting, AreJudged, Does, HasSizeOf, IsJudgeable, IsJudged, IsRecoverable, IsRecovered, TreeStep, edits_of_steps, lasting_nodes, tree_after_steps}
 use Rattle.edit_log.specs.Start.{RecoversUpTo, last_generation, logs_of, start_result, tree_after_logs, tree_with_bodies, tree_with_edits}
 
 -- the items that are written for an edit are read again
@@ -155,3 +155,20 @@ RecoversFailedRun =
     → IsCrashImage (Kept content durable) (at' (Log g)) → Lists at' all' → IsRising all' → start_result at' all' ≡ Ok (g', t')
     → (lasting_nodes t' ≡ lasting_nodes (tree_after_steps steps t))
     ⊎ (lasting_nodes t' ≡ lasting_nodes (tree_after_steps (steps ++ Does e moment ∷ []) t))
+
+-- An edit that is judged over such a tree fits it.
+abbrev pub FitsWhereJudged : Type 0
+FitsWhereJudged = (t : Tree) (e : Edit) → IsJudgeable t → IsJudged t e → is_fitting t e ≡ true
+
+-- a start gives such a tree
+abbrev pub StartsJudgeable : Type 0
+StartsJudgeable =
+    (at : ObjectId → ObjectState) (all : List KeptObject) (g : ℕ) (t : Tree) → start_result at all ≡ Ok (g, t) → IsJudgeable t
+
+-- and any steps leave one
+abbrev pub StaysJudgeable : Type 0
+StaysJudgeable = (steps : List TreeStep) (t : Tree) → IsJudgeable t → IsJudgeable (tree_after_steps steps t)
+
+-- So each edit of a run fits where each was judged.
+abbrev pub RunsWhereJudged : Type 0
+RunsWhereJudged = (steps : List TreeStep) (t : Tree) → IsJudgeable t → AreJudged t steps → AreFitting t steps

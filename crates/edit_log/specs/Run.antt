@@ -1,12 +1,14 @@
 -- What a run does to its tree, and what of the tree outlasts the run: what the next start recovers.
-use Rattle.std.specs.Prelude.{◌≡◌, ◌⊎◌, ◌≤◌, ℕ, true, List, [], ◌∷◌, map, Option, None, Some, if◌then◌else◌}
+use Rattle.std.specs.Prelude.{◌≡◌, ◌⊎◌, ◌≤◌, ◌<◌, ℕ, true, false, List, [], ◌∷◌, map, Option, None, Some, if◌then◌else◌}
 use Rattle.gw_model.specs.declared.object.ObjectId.{ObjectId}
 use Rattle.gw_model.specs.declared.object.ObjectId.TheVariants.{Log, Body}
 use Rattle.nfs_types.specs.declared.file_type.FileType.{FileType}
 use Rattle.nfs_types.specs.declared.attr.Attr.{Attr}
 use Rattle.nfs_types.specs.Types.{moment_time}
 use Rattle.name_tree.specs.declared.edit.Edit.{Edit}
-use Rattle.name_tree.specs.Tree.{Tree, Node, id_past, is_fitting, is_regular, last_id, node, tree_after, tree_past, tree_with_size}
+use Rattle.name_tree.specs.declared.request.NameRequest.{NameRequest}
+use Rattle.name_tree.specs.Table.{NameScene, Change, name_judgement}
+use Rattle.name_tree.specs.Tree.{Tree, Node, id_past, is_bare, is_dir, is_fitting, is_regular, last_id, node, root, tree_after, tree_past, tree_with_size}
 use Rattle.name_tree.specs.Flat.{IsSoundTree}
 use Rattle.edit_log.specs.Start.{is_file}
 
@@ -91,3 +93,27 @@ IsFittingStep t (Passes id) = Unit {0}
 abbrev pub AreFitting : Tree → List TreeStep → Type 0
 AreFitting t [] = Unit {0}
 AreFitting t (s ∷ ss) = IsFittingStep t s × AreFitting (tree_after_step s t) ss
+
+-- What starts and runs keep besides, so that what is judged over a tree fits it: the root's id was passed too, and nothing but
+-- directories has names.
+pub record IsJudgeable (t : Tree) : Type 0 where
+  pub recoverable : IsRecoverable t
+  pub past_root : root < t.next_id
+  pub names : (id : ℕ) → is_dir t id ≡ false → is_bare t id ≡ true
+
+-- a request comes to this edit, as it is judged over this tree
+pub record IsJudged (t : Tree) (edit : Edit) : Type 0 where
+  pub scene : NameScene
+  pub over : scene.tree ≡ t
+  pub request : NameRequest
+  pub change : name_judgement scene request ≡ Change edit
+
+-- an edit is judged over the tree that it is done on, and a size is that of a file
+abbrev pub IsJudgedStep : Tree → TreeStep → Type 0
+IsJudgedStep t (Does edit moment) = IsJudged t edit
+IsJudgedStep t (Learns file size changed) = is_file (node t file) ≡ true
+IsJudgedStep t (Passes id) = Unit {0}
+
+abbrev pub AreJudged : Tree → List TreeStep → Type 0
+AreJudged t [] = Unit {0}
+AreJudged t (s ∷ ss) = IsJudgedStep t s × AreJudged (tree_after_step s t) ss

@@ -14,7 +14,7 @@ mod starting;
 mod text;
 
 pub use fault::{LogFault, StartFault};
-pub use laws::{listing_law, recovery_law, run_law, store_law, text_law};
+pub use laws::{judged_law, listing_law, recovery_law, run_law, store_law, text_law};
 pub use log::Log;
 pub use reading::{EditFault, edits_of};
 pub use text::edit_text;
