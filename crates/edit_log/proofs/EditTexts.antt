@@ -168,15 +168,15 @@ edit_again (Remove parent name) r =
     (rw (word_again 2 (8 + (opaque_size name + 0)) (long parent ++ (opaque_text name ++ [])) (omega arith), remove_again parent 0 name [] r.0 r.1.some r.1.most r.1.clean) refl)
 edit_again (Rename parent name to to_name) r =
     sized (Rename parent name to to_name) (4 + (8 + (opaque_size name + (8 + (opaque_size to_name + 0))))) (length-text (edit_row (Rename parent name to to_name)))
-    (rw (word_again 3 (8 + (opaque_size name + (8 + (opaque_size to_name + 0)))) (long parent ++ (opaque_text name ++ (long to ++ (opaque_text to_name ++ [])))) (omega arith), rename_again parent to 0 name to_name [] r.0 r.1.some r.1.most r.1.clean r.2 r.3.some r.3.most r.3.clean) refl)
+    (rw (word_again 3 (8 + (opaque_size name + (8 + (opaque_size to_name + 0)))) (long parent ++ (opaque_text name ++ (long to ++ (opaque_text to_name ++ [])))) (omega arith), rename_again parent to 0 name to_name [] r.0.0 r.1.some r.1.most r.1.clean r.0.1 r.2.some r.2.most r.2.clean) refl)
 edit_again (Set id mode uid gid atime mtime) r =
     sized (Set id mode uid gid atime mtime) (4 + (8 + (4 + (4 + (4 + 0))))) (length-text (edit_row (Set id mode uid gid atime mtime)))
     (rw (word_again 4 (8 + (4 + (4 + (4 + 0)))) (long id ++ (word mode ++ (word uid ++ (word gid ++ [])))) (omega arith), set_again id mode uid gid 0 [] r.0 r.1 r.2 r.3) refl)
 edit_again (Make parent id kind mode uid gid name path atime mtime verifier) r =
-    let most = path_most kind (length path) r.8 in
+    let most = path_most kind (length path) r.3 in
     sized (Make parent id kind mode uid gid name path atime mtime verifier) (4 + (8 + (8 + (4 + (4 + (4 + (4 + (opaque_size name + (opaque_size path + 0)))))))))
     (length-text (edit_row (Make parent id kind mode uid gid name path atime mtime verifier)))
-    (rw (word_again 1 (8 + (8 + (4 + (4 + (4 + (4 + (opaque_size name + (opaque_size path + 0)))))))) (long parent ++ (long id ++ (word kind ++ (word mode ++ (word uid ++ (word gid ++ (opaque_text name ++ (opaque_text path ++ [])))))))) (omega arith), make_again parent id kind mode uid gid 0 name path [] r.0 r.1 r.2 r.3 r.4 r.5 r.6 r.7.some r.7.most r.7.clean r.8 (omega (arith, most))) refl)
+    (rw (word_again 1 (8 + (8 + (4 + (4 + (4 + (4 + (opaque_size name + (opaque_size path + 0)))))))) (long parent ++ (long id ++ (word kind ++ (word mode ++ (word uid ++ (word gid ++ (opaque_text name ++ (opaque_text path ++ [])))))))) (omega arith), make_again parent id kind mode uid gid 0 name path [] r.0.0 r.0.1 r.1 r.0.2 r.0.3 r.0.4 r.0.5 r.2.some r.2.most r.2.clean r.3 (omega (arith, most))) refl)
 
 few_pad : (n : ℕ) → pad_len n ≤ 3
 few_pad n = omega arith
@@ -188,10 +188,10 @@ text_fits (Remove parent name) r =
     (omega (arith, size), omega (arith, size, r.1.most, few_pad (length name)))
 text_fits (Rename parent name to to_name) r =
     let size = length-text (edit_row (Rename parent name to to_name)) in
-    (omega (arith, size), omega (arith, size, r.1.most, r.3.most, few_pad (length name), few_pad (length to_name)))
+    (omega (arith, size), omega (arith, size, r.1.most, r.2.most, few_pad (length name), few_pad (length to_name)))
 text_fits (Set id mode uid gid atime mtime) r =
     let size = length-text (edit_row (Set id mode uid gid atime mtime)) in
     (omega (arith, size), omega (arith, size))
 text_fits (Make parent id kind mode uid gid name path atime mtime verifier) r =
     let size = length-text (edit_row (Make parent id kind mode uid gid name path atime mtime verifier)) in
-    (omega (arith, size), omega (arith, size, r.7.most, path_most kind (length path) r.8, few_pad (length name), few_pad (length path)))
+    (omega (arith, size), omega (arith, size, r.2.most, path_most kind (length path) r.3, few_pad (length name), few_pad (length path)))

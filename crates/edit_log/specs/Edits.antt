@@ -215,13 +215,21 @@ pub record IsName (name : List ℕ) : Type 0 where
   pub most : length name ≤ 255
   pub clean : has_bad_byte name ≡ false
 
+-- the numbers are a u64's and a u32's
+abbrev pub HasNumbers : Edit → Type 0
+HasNumbers (Make parent id kind mode uid gid name path atime mtime verifier) =
+    (parent < 2 ^ 64) × (id < 2 ^ 64) × (kind < 2 ^ 32) × (mode < 2 ^ 32) × (uid < 2 ^ 32) × (gid < 2 ^ 32)
+HasNumbers (Remove parent name) = parent < 2 ^ 64
+HasNumbers (Rename parent name to_parent to_name) = (parent < 2 ^ 64) × (to_parent < 2 ^ 64)
+HasNumbers (Set id mode uid gid atime mtime) = (id < 2 ^ 64) × (mode < 2 ^ 32) × (uid < 2 ^ 32) × (gid < 2 ^ 32)
+
 abbrev pub InRange : Edit → Type 0
 InRange (Make parent id kind mode uid gid name path atime mtime verifier) =
-    (parent < 2 ^ 64) × (id < 2 ^ 64) × (is_kind kind ≡ true) × (kind < 2 ^ 32) × (mode < 2 ^ 32) × (uid < 2 ^ 32) × (gid < 2 ^ 32)
-    × IsName name × (length path ≤ path_max kind)
-InRange (Remove parent name) = (parent < 2 ^ 64) × IsName name
-InRange (Rename parent name to_parent to_name) = (parent < 2 ^ 64) × IsName name × (to_parent < 2 ^ 64) × IsName to_name
-InRange (Set id mode uid gid atime mtime) = (id < 2 ^ 64) × (mode < 2 ^ 32) × (uid < 2 ^ 32) × (gid < 2 ^ 32)
+    HasNumbers (Make parent id kind mode uid gid name path atime mtime verifier)
+    × (is_kind kind ≡ true) × IsName name × (length path ≤ path_max kind)
+InRange (Remove parent name) = HasNumbers (Remove parent name) × IsName name
+InRange (Rename parent name to_parent to_name) = HasNumbers (Rename parent name to_parent to_name) × IsName name × IsName to_name
+InRange (Set id mode uid gid atime mtime) = HasNumbers (Set id mode uid gid atime mtime)
 
 -- An edit as it is read again: the text of version 1 has neither its times nor its verifier.
 abbrev pub written_edit : Edit → Edit

@@ -10,9 +10,9 @@ use Rattle.gw_model.specs.declared.object.ObjectId.TheVariants.{Log}
 use Rattle.name_tree.specs.Tree.{Tree, is_fitting, root_tree}
 use Rattle.name_tree.specs.declared.edit.Edit.{Edit}
 use Rattle.edit_log.specs.declared.gauge.Cut.TheVariants.{Torn}
-use Rattle.edit_log.specs.Edits.{Edits, InRange, ReadsUpTo, edit_of, edit_row, edit_text, edit_texts, edits_of, header, written_edit, written_edits}
+use Rattle.edit_log.specs.Edits.{Edits, HasNumbers, InRange, ReadsUpTo, edit_of, edit_row, edit_text, edit_texts, edits_of, header, written_edit, written_edits}
 use Rattle.edit_log.specs.Log.{Holds}
-use Rattle.edit_log.specs.Run.{AreFitting, AreJudged, Does, HasSizeOf, IsJudgeable, IsJudged, IsRecoverable, IsRecovered, TreeStep, edits_of_steps, lasting_nodes, tree_after_steps}
+use Rattle.edit_log.specs.Run.{AreFitting, AreJudged, Does, HasRoomForPath, HasSizeOf, IsJudgeable, IsJudged, IsRecoverable, IsRecovered, TreeStep, edits_of_steps, lasting_nodes, tree_after_steps}
 use Rattle.edit_log.specs.Start.{RecoversUpTo, last_generation, logs_of, start_result, tree_after_logs, tree_with_bodies, tree_with_edits}
 
 -- the items that are written for an edit are read again
@@ -172,3 +172,8 @@ StaysJudgeable = (steps : List TreeStep) (t : Tree) → IsJudgeable t → IsJudg
 -- So each edit of a run fits where each was judged.
 abbrev pub RunsWhereJudged : Type 0
 RunsWhereJudged = (steps : List TreeStep) (t : Tree) → IsJudgeable t → AreJudged t steps → AreFitting t steps
+
+-- and is in its ranges, where its numbers are those of their types: the names are judged.
+abbrev pub IsInRangeWhereJudged : Type 0
+IsInRangeWhereJudged =
+    (t : Tree) (e : Edit) (judged : IsJudged t e) → IsJudgeable t → HasRoomForPath judged.request → HasNumbers e → InRange e

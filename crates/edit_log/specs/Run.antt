@@ -1,5 +1,5 @@
 -- What a run does to its tree, and what of the tree outlasts the run: what the next start recovers.
-use Rattle.std.specs.Prelude.{◌≡◌, ◌⊎◌, ◌≤◌, ◌<◌, ℕ, true, false, List, [], ◌∷◌, map, Option, None, Some, if◌then◌else◌}
+use Rattle.std.specs.Prelude.{◌≡◌, ◌⊎◌, ◌≤◌, ◌<◌, ℕ, true, false, List, [], ◌∷◌, length, map, Option, None, Some, if◌then◌else◌}
 use Rattle.gw_model.specs.declared.object.ObjectId.{ObjectId}
 use Rattle.gw_model.specs.declared.object.ObjectId.TheVariants.{Log, Body}
 use Rattle.nfs_types.specs.declared.file_type.FileType.{FileType}
@@ -7,6 +7,7 @@ use Rattle.nfs_types.specs.declared.attr.Attr.{Attr}
 use Rattle.nfs_types.specs.Types.{moment_time}
 use Rattle.name_tree.specs.declared.edit.Edit.{Edit}
 use Rattle.name_tree.specs.declared.request.NameRequest.{NameRequest}
+use Rattle.name_tree.specs.declared.request.NameRequest.TheVariants as request
 use Rattle.name_tree.specs.Table.{NameScene, Change, name_judgement}
 use Rattle.name_tree.specs.Tree.{Tree, Node, id_past, is_bare, is_dir, is_fitting, is_regular, last_id, node, root, tree_after, tree_past, tree_with_size}
 use Rattle.name_tree.specs.Flat.{IsSoundTree}
@@ -100,6 +101,11 @@ pub record IsJudgeable (t : Tree) : Type 0 where
   pub recoverable : IsRecoverable t
   pub past_root : root < t.next_id
   pub names : (id : ℕ) → is_dir t id ≡ false → is_bare t id ≡ true
+
+-- the text has room for the path of a new link
+abbrev pub HasRoomForPath : NameRequest → Type 0
+HasRoomForPath (request.Symlink moment dir name set path) = length path.now ≤ 1024
+HasRoomForPath _ = Unit {0}
 
 -- a request comes to this edit, as it is judged over this tree
 pub record IsJudged (t : Tree) (edit : Edit) : Type 0 where

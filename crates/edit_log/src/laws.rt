@@ -1,5 +1,5 @@
 // What the definitions mean for one another. No law has a body: each clause is a fact of the definitions, which callers cite.
-ghost use Rattle.edit_log.specs.Laws.{FitsWhereJudged, FrontsAreTorn, HasListedSizes, HoldsOneMore, IsReadAgain, KeepsAnswered, ListsAllOrNothing, ListsAnswered, ListsJustAnswered, ListsWholeEdits, PassesOverTornEnds, PassesOverTornHeaders, RecoversAnswered, RecoversCrashedRun, RecoversFailedRun, RecoversRun, RecoversSteps, RecoversStore, RunsWhereJudged, StartsFromLogs, StartsJudgeable, StartsRecoverable, StaysJudgeable};
+ghost use Rattle.edit_log.specs.Laws.{FitsWhereJudged, FrontsAreTorn, HasListedSizes, HoldsOneMore, IsInRangeWhereJudged, IsReadAgain, KeepsAnswered, ListsAllOrNothing, ListsAnswered, ListsJustAnswered, ListsWholeEdits, PassesOverTornEnds, PassesOverTornHeaders, RecoversAnswered, RecoversCrashedRun, RecoversFailedRun, RecoversRun, RecoversSteps, RecoversStore, RunsWhereJudged, StartsFromLogs, StartsJudgeable, StartsRecoverable, StaysJudgeable};
 
 /// What is written for an edit in its ranges is read again, but for its times and its verifier. What lacks some bytes at its
 /// end is torn.
@@ -48,10 +48,12 @@ pub fn run_law()
 {}
 
 /// An edit that a tree judges a request to come to fits that tree: so it is over the tree that a start gives, and after any
-/// steps of a run. So a run of such edits is one of which `run_law` speaks.
+/// steps of a run. So a run of such edits is one of which `run_law` speaks. The edit is in the ranges of its text, but for a
+/// link's path that is too long.
 pub fn judged_law()
     ensures start { StartsJudgeable }
     ensures stays { StaysJudgeable }
     ensures fits { FitsWhereJudged }
     ensures runs { RunsWhereJudged }
+    ensures range { IsInRangeWhereJudged }
 {}
