@@ -1,7 +1,7 @@
 // The text of an edit.
 ghost use Rattle.std.specs.Prelude.{◌≡◌, OnOk, IfOk};
 ghost use Rattle.xdr.specs.Rows.{joined_text, text};
-ghost use Rattle.edit_log.specs.Edits.{edit_row, edit_text};
+ghost use Rattle.edit_log.specs.Edits.{HasNumbers, edit_row, edit_text};
 
 use gw_model::NoMemory;
 use name_tree::Edit;
@@ -10,7 +10,8 @@ use xdr::Writer;
 
 // Writes the items of an edit.
 fn put_items(writer: &mut Writer, edit: &Edit) -> Result<(), xdr::NoMemory>
-    ensures { OnOk result (writer.new ≡ joined_text writer.old (edit_row edit.now)) }
+    ensures row { OnOk result (writer.new ≡ joined_text writer.old (edit_row edit.now)) }
+    ensures numbers { OnOk result (HasNumbers edit.now) }
 {
     match edit {
         Edit::Make {
@@ -70,7 +71,8 @@ fn put_items(writer: &mut Writer, edit: &Edit) -> Result<(), xdr::NoMemory>
 
 // The items of an edit.
 fn items_of(alloc: Global, edit: &Edit) -> Result<Vec<u8>, xdr::NoMemory>
-    ensures { IfOk result (λ items. items.items ≡ text (edit_row edit.now)) }
+    ensures items { IfOk result (λ items. items.items ≡ text (edit_row edit.now)) }
+    ensures numbers { OnOk result (HasNumbers edit.now) }
 {
     let mut writer = Writer::new(alloc);
     put_items(&mut writer, edit)?;
@@ -81,7 +83,8 @@ fn items_of(alloc: Global, edit: &Edit) -> Result<Vec<u8>, xdr::NoMemory>
 /// whose items have 2^32 bytes or more has none, and is answered as want of memory. Takes memory.
 #[tactic(auto, unfolding(crate::specs::Edits::edit_text))]
 pub fn edit_text(alloc: Global, edit: &Edit) -> Result<Vec<u8>, NoMemory>
-    ensures { IfOk result (λ all. all.items ≡ edit_text edit.now) }
+    ensures text { IfOk result (λ all. all.items ≡ edit_text edit.now) }
+    ensures numbers { OnOk result (HasNumbers edit.now) }
 {
     let Ok(items) = items_of(alloc, edit) else {
         return Err(NoMemory);
