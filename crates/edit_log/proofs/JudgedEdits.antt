@@ -28,7 +28,7 @@ use Rattle.name_tree.proofs.SortedEntries.{lookup_insert, lookup_remove, same_id
 use Rattle.name_tree.proofs.FlatNodes.{Nodes, at_change}
 use Rattle.name_tree.specs.Flat.{IsSoundTree}
 use Rattle.edit_log.specs.Edits.{HasNumbers, InRange, IsName, has_bad_byte, is_kind, path_max}
-use Rattle.edit_log.specs.Run.{HasRoomForPath, AreFitting, AreJudged, Does, IsJudgeable, IsJudged, Learns, Passes, TreeStep, tree_after_step, tree_after_steps}
+use Rattle.edit_log.specs.Run.{HasRoomForPath, AreFitting, AreJudged, Does, IsJudgeable, IsJudgedEdit, Learns, Passes, TreeStep, tree_after_step, tree_after_steps}
 use Rattle.edit_log.specs.Laws.{FitsWhereJudged, IsInRangeWhereJudged}
 use Rattle.edit_log.proofs.RunTrees.{recoverable_after, recoverable_past, recoverable_root, recoverable_sized}
 
@@ -375,7 +375,7 @@ judged_met s (request.Remove dir name) e j h = remove_met s dir.0 name.now e j h
 judged_met s (request.Rmdir dir name) e j h = rmdir_met s dir.0 name.now e h
 judged_met s (request.Rename dir name to_dir to_name) e j h = rename_met s dir.0 name.now to_dir.0 to_name.now e h
 
-met : (t : Tree) (e : Edit) (judged : IsJudged t e) → IsJudgeable t → IsMet (HasRoomForPath judged.request) t e
+met : (t : Tree) (e : Edit) (judged : IsJudgedEdit t e) → IsJudgeable t → IsMet (HasRoomForPath judged.request) t e
 met t e judged j =
     subst (λ (u : Tree). IsMet (HasRoomForPath judged.request) u e) judged.over
     (judged_met judged.scene judged.request e (subst IsJudgeable (sym judged.over) j) judged.change)

@@ -5,6 +5,7 @@ pub mod PutTexts
 pub mod EditSteps
 pub mod LogsAfter
 pub mod CrashedLogs
+pub mod CountedCalls
 pub mod FetchedLogs
 pub mod StartedLogs
 pub mod StoreLogs

@@ -12,7 +12,7 @@ use Rattle.name_tree.specs.declared.edit.Edit.{Edit}
 use Rattle.edit_log.specs.declared.gauge.Cut.TheVariants.{Torn}
 use Rattle.edit_log.specs.Edits.{Edits, HasNumbers, InRange, ReadsUpTo, edit_of, edit_row, edit_text, edit_texts, edits_of, header, written_edit, written_edits}
 use Rattle.edit_log.specs.Log.{Holds}
-use Rattle.edit_log.specs.Run.{AreFitting, AreJudged, Does, HasRoomForPath, HasSizeOf, IsJudgeable, IsJudged, IsRecoverable, IsRecovered, TreeStep, edits_of_steps, lasting_nodes, tree_after_steps}
+use Rattle.edit_log.specs.Run.{AreFitting, AreJudged, Does, HasRoomForPath, HasSizeOf, IsJudgeable, IsJudgedEdit, IsRecoverable, IsRecovered, TreeStep, edits_of_steps, lasting_nodes, tree_after_steps}
 use Rattle.edit_log.specs.Start.{RecoversUpTo, last_generation, logs_of, start_result, tree_after_logs, tree_with_bodies, tree_with_edits}
 
 -- the items that are written for an edit are read again
@@ -158,7 +158,7 @@ RecoversFailedRun =
 
 -- An edit that is judged over such a tree fits it.
 abbrev pub FitsWhereJudged : Type 0
-FitsWhereJudged = (t : Tree) (e : Edit) → IsJudgeable t → IsJudged t e → is_fitting t e ≡ true
+FitsWhereJudged = (t : Tree) (e : Edit) → IsJudgeable t → IsJudgedEdit t e → is_fitting t e ≡ true
 
 -- a start gives such a tree
 abbrev pub StartsJudgeable : Type 0
@@ -176,4 +176,4 @@ RunsWhereJudged = (steps : List TreeStep) (t : Tree) → IsJudgeable t → AreJu
 -- and is in its ranges, where its numbers are those of their types: the names are judged.
 abbrev pub IsInRangeWhereJudged : Type 0
 IsInRangeWhereJudged =
-    (t : Tree) (e : Edit) (judged : IsJudged t e) → IsJudgeable t → HasRoomForPath judged.request → HasNumbers e → InRange e
+    (t : Tree) (e : Edit) (judged : IsJudgedEdit t e) → IsJudgeable t → HasRoomForPath judged.request → HasNumbers e → InRange e

@@ -3,8 +3,10 @@ use Rattle.std.specs.Prelude.{◌≡◌, ℕ, ◌+◌, ◌/◌, ◌≤◌, List,
 use Rattle.gw_model.specs.declared.object.KeptObject.{KeptObject}
 use Rattle.gw_model.specs.declared.object.ObjectId.{ObjectId}
 use Rattle.gw_model.specs.declared.object.ObjectId.TheVariants.{Log, Body}
-use Rattle.gw_model.specs.Ahead.{Outcome, Done, Failed}
+use Rattle.gw_model.specs.Ahead.{Outcome, Done, Failed, call_count, failure_count}
 use Rattle.gw_model.specs.Views.{TraceState}
+use Rattle.gw_outside.specs.Tally.{calls_tally}
+use Rattle.gw_outside.specs.declared.tally.Tally.{Tally}
 use Rattle.edit_log.specs.declared.fault.StartFault.{StartFault}
 use Rattle.edit_log.specs.declared.fault.StartFault.TheVariants as fault
 
@@ -13,6 +15,12 @@ pub record Notes (old new : TraceState) (outcomes : List Outcome) : Type 0 where
   pub noted : new.outcomes ≡ old.outcomes ++ outcomes
   pub event : new.event ≡ old.event
   pub request : new.request ≡ old.request
+
+-- Just the calls that were noted were counted.
+pub record AreCounted (old new : TraceState) (before after : Tally) : Type 0 where
+  pub outcomes : List Outcome
+  pub noted : new.outcomes ≡ old.outcomes ++ outcomes
+  pub tally : after ≡ calls_tally (call_count outcomes) (failure_count outcomes) before
 
 -- so many calls that were done
 abbrev pub done_calls : ℕ → List Outcome

@@ -108,7 +108,7 @@ HasRoomForPath (request.Symlink moment dir name set path) = length path.now ≤ 
 HasRoomForPath _ = Unit {0}
 
 -- a request comes to this edit, as it is judged over this tree
-pub record IsJudged (t : Tree) (edit : Edit) : Type 0 where
+pub record IsJudgedEdit (t : Tree) (edit : Edit) : Type 0 where
   pub scene : NameScene
   pub over : scene.tree ≡ t
   pub request : NameRequest
@@ -116,7 +116,7 @@ pub record IsJudged (t : Tree) (edit : Edit) : Type 0 where
 
 -- an edit is judged over the tree that it is done on, and a size is that of a file
 abbrev pub IsJudgedStep : Tree → TreeStep → Type 0
-IsJudgedStep t (Does edit moment) = IsJudged t edit
+IsJudgedStep t (Does edit moment) = IsJudgedEdit t edit
 IsJudgedStep t (Learns file size changed) = is_file (node t file) ≡ true
 IsJudgedStep t (Passes id) = Unit {0}
 

@@ -4,7 +4,7 @@ ghost use Rattle.gw_outside.specs.Causes.{Rose};
 ghost use Rattle.gw_model.specs.declared.object.ObjectId.{ObjectId};
 ghost use Rattle.append_store.specs.State.{IsThere, bytes_of};
 ghost use Rattle.append_store.specs.Calls.{HasLength, part_at};
-ghost use Rattle.edit_log.specs.Notes.{EndsAfter, IsOutside, Notes, done_calls, piece_count};
+ghost use Rattle.edit_log.specs.Notes.{AreCounted, EndsAfter, IsOutside, Notes, done_calls, piece_count};
 ghost use Rattle.edit_log.specs.declared.fault.StartFault.{StartFault};
 
 use crate::StartFault;
@@ -37,6 +37,7 @@ fn fetch_piece<C: Cluster>(
     ensures later { C.count cluster.old ≤ C.count cluster.new }
     ensures cause { IsErrOf result StartFault.Store → Rose (C.count cluster.old) (C.count cluster.new) }
     ensures outside { C.File.tells → IfErr result IsOutside }
+    ensures counted { AreCounted trace.old trace.new (C.tally cluster.old) (C.tally cluster.new) }
     ensures ok_notes { OnOk result (Notes trace.old trace.new (done_calls 1)) }
     ensures err_notes { IfErr result (λ e. EndsAfter 1 0 e trace.old trace.new) }
 {
@@ -75,6 +76,7 @@ pub fn fetch<C: Cluster>(
     ensures later { C.count cluster.old ≤ C.count cluster.new }
     ensures cause { IsErrOf result StartFault.Store → Rose (C.count cluster.old) (C.count cluster.new) }
     ensures outside { C.File.tells → IfErr result IsOutside }
+    ensures counted { AreCounted trace.old trace.new (C.tally cluster.old) (C.tally cluster.new) }
     ensures ok_notes { OnOk result (Notes trace.old trace.new (done_calls (piece_count size))) }
     ensures err_notes { IfErr result (λ e. EndsAfter (piece_count size) 0 e trace.old trace.new) }
 {

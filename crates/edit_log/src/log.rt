@@ -1,8 +1,9 @@
 // The log's file. An edit is answered once it is durable.
 ghost use Rattle.std.specs.Prelude.{◌≡◌, ◌≢◌, ◌+◌, ◌^◌, ◌-◌, ◌<◌, ◌≤◌, ◌⊎◌, ◌++◌, [], List, ℕ, min, length, take, IfOk, IfErr, OnOk, OnErr, IsErr, IsSome, IsErrOf, None, Some};
 ghost use Rattle.gw_outside.specs.Causes.{HasCause, Rose};
+ghost use Rattle.gw_outside.specs.Tally.{joined_tally};
 ghost use Rattle.append_store.specs.State.{IsAway, Lent, Missing};
-ghost use Rattle.edit_log.specs.Notes.{EndsAfter, IsOutside, Notes, done_calls};
+ghost use Rattle.edit_log.specs.Notes.{AreCounted, EndsAfter, IsOutside, Notes, done_calls};
 ghost use Rattle.edit_log.specs.Log.{Holds, HoldsAfter, Puts, added_after, log_file};
 ghost use Rattle.edit_log.specs.Edits.{header};
 ghost use Rattle.edit_log.specs.declared.fault.StartFault.{StartFault};
@@ -102,6 +103,9 @@ impl<F: AppendFile> Log<F> {
         ensures outside { IfErr result IsOutside }
         ensures later { C.count cluster.old ≤ C.count cluster.new }
         ensures cause { IsErrOf result StartFault.Store → Rose (C.count cluster.old) (C.count cluster.new) }
+        ensures ok_counted { IfOk result (λ log. AreCounted trace.old trace.new
+            (C.tally cluster.old) (joined_tally (C.tally cluster.new) (F.tally log.file))) }
+        ensures err_counted { OnErr result (AreCounted trace.old trace.new (C.tally cluster.old) (C.tally cluster.new)) }
         ensures ok_notes { OnOk result (Notes trace.old trace.new (done_calls 4)) }
         ensures err_notes { IfErr result (λ e. (kept : ℕ) × EndsAfter 3 kept e trace.old trace.new) }
     {

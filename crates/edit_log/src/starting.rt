@@ -5,6 +5,7 @@ ghost use Rattle.std.specs.Map.{lookup};
 ghost use Rattle.std.specs.BTreeMap.{is_at};
 ghost use Rattle.std.specs.Ordering.{nat_cmp};
 ghost use Rattle.gw_outside.specs.Causes.{Rose};
+ghost use Rattle.gw_outside.specs.Tally.{joined_tally};
 ghost use Rattle.gw_model.specs.declared.object.ObjectId.{ObjectId};
 ghost use Rattle.gw_model.specs.declared.object.KeptObject.{KeptObject};
 ghost use Rattle.append_store.specs.State.{IsAway, IsThere, Lent};
@@ -12,7 +13,7 @@ ghost use Rattle.append_store.specs.Calls.{HasLength, Lists, IsRising};
 ghost use Rattle.gw_model.specs.Ahead as note;
 ghost use Rattle.edit_log.specs.Log.{Holds};
 ghost use Rattle.edit_log.specs.Edits.{header};
-ghost use Rattle.edit_log.specs.Notes.{EndsAfter, IsOutside, Notes, done_calls, reads_in, read_count};
+ghost use Rattle.edit_log.specs.Notes.{AreCounted, EndsAfter, IsOutside, Notes, done_calls, reads_in, read_count};
 ghost use Rattle.edit_log.specs.Start.{DoesLogs, Finds, Refuses, StartNotes, Starts, StopNotes, has_body, is_body_of, tree_with_body, greater_generation, last_generation, log_in, logs_of, tree_after_logs, tree_with_bodies, start_result, tree_with_length};
 ghost use Rattle.edit_log.specs.declared.fault.StartFault.{StartFault};
 
@@ -43,6 +44,7 @@ fn read_one<C: Cluster>(
     ensures same { C.File.tells → (q : ObjectId) → C.at cluster.new q ≡ C.at cluster.old q }
     ensures later { C.count cluster.old ≤ C.count cluster.new }
     ensures cause { IsErrOf result StartFault.Store → Rose (C.count cluster.old) (C.count cluster.new) }
+    ensures counted { AreCounted trace.old trace.new (C.tally cluster.old) (C.tally cluster.new) }
     ensures ok_notes { OnOk result (Notes trace.old trace.new (done_calls (reads_in kept.object kept.length))) }
     ensures err_notes { IfErr result (λ e. EndsAfter (reads_in kept.object kept.length) 0 e trace.old trace.new) }
 {
@@ -76,6 +78,7 @@ fn read_all<C: Cluster>(
     ensures same { C.File.tells → (q : ObjectId) → C.at cluster.new q ≡ C.at cluster.old q }
     ensures later { C.count cluster.old ≤ C.count cluster.new }
     ensures cause { IsErrOf result StartFault.Store → Rose (C.count cluster.old) (C.count cluster.new) }
+    ensures counted { AreCounted trace.old trace.new (C.tally cluster.old) (C.tally cluster.new) }
     ensures ok_notes { OnOk result (Notes trace.old trace.new (done_calls (read_count all.now))) }
     ensures err_notes { IfErr result (λ e. EndsAfter (read_count all.now) 0 e trace.old trace.new) }
 {
@@ -161,6 +164,7 @@ fn recover<C: Cluster>(
     ensures same { C.File.tells → (q : ObjectId) → C.at cluster.new q ≡ C.at cluster.old q }
     ensures later { C.count cluster.old ≤ C.count cluster.new }
     ensures cause { IsErrOf result StartFault.Store → Rose (C.count cluster.old) (C.count cluster.new) }
+    ensures counted { AreCounted trace.old trace.new (C.tally cluster.old) (C.tally cluster.new) }
     ensures ok_notes { OnOk result (Notes trace.old trace.new (done_calls (read_count all.now))) }
     ensures err_notes { IfErr result (λ e. EndsAfter (read_count all.now) 0 e trace.old trace.new) }
 {
@@ -199,6 +203,7 @@ fn look<C: Cluster>(
     ensures same { C.File.tells → (q : ObjectId) → C.at cluster.new q ≡ C.at cluster.old q }
     ensures later { C.count cluster.old ≤ C.count cluster.new }
     ensures cause { IsErrOf result StartFault.Store → Rose (C.count cluster.old) (C.count cluster.new) }
+    ensures counted { AreCounted trace.old trace.new (C.tally cluster.old) (C.tally cluster.new) }
     ensures ok_notes { IfOk result (λ all. Notes trace.old trace.new (note.Listed all.items ∷ [])) }
     ensures err_notes { IfErr result (λ e. StopNotes C.File.tells (C.at cluster.old) e trace.old trace.new) }
 {
@@ -242,6 +247,9 @@ impl<F: AppendFile> Log<F> {
         ensures given_back { OnErr result (F.tells → (q : ObjectId) → IsAway (C.at cluster.new q) → ⊥) }
         ensures later { C.count cluster.old ≤ C.count cluster.new }
         ensures cause { IsErrOf result StartFault.Store → Rose (C.count cluster.old) (C.count cluster.new) }
+        ensures ok_counted { IfOk result (λ r. AreCounted trace.old trace.new
+            (C.tally cluster.old) (joined_tally (C.tally cluster.new) (F.tally r.0.file))) }
+        ensures err_counted { OnErr result (AreCounted trace.old trace.new (C.tally cluster.old) (C.tally cluster.new)) }
         ensures ok_notes { OnOk result (StartNotes F.tells (C.at cluster.old) trace.old trace.new) }
         ensures err_notes { IfErr result (λ e. StopNotes F.tells (C.at cluster.old) e trace.old trace.new) }
     {

@@ -4,6 +4,7 @@ use Rattle.std.proofs.lemmas.List.{length-take-le}
 use Rattle.gw_model.specs.declared.object.ObjectId.TheVariants.{Log}
 use Rattle.append_store.specs.State.{bytes_of}
 use Rattle.append_store.specs.Calls.{part_at}
+use Rattle.edit_log.proofs.CountedCalls.{counted_then}
 use Rattle.edit_log.proofs.FetchedLogs.{known_length, piece_more, one_read, read_failed}
 use Rattle.edit_log.proofs.fetching.fetch.Goals as goal
 
@@ -11,6 +12,12 @@ pub returns-in-Err-clause-err_notes : goal.returns-in-Err-clause-err_notes
 returns-in-Err-clause-err_notes g c =
     let l = c.loop-at in
     read_failed c.args.trace.now l.trace c.fetch_piece.new.trace l.at c.args.size c.in-Err.fault l.invariant.whole c.loop-at-test.true l.invariant.notes c.in-Err.ensures.err_notes
+
+pub returns-in-Err-clause-counted : goal.returns-in-Err-clause-counted
+returns-in-Err-clause-counted g c =
+    let l = c.loop-at in
+    counted_then c.args.trace.now l.trace c.fetch_piece.new.trace
+    (g.C.Cluster.tally c.args.cluster.now) (g.C.Cluster.tally l.cluster) (g.C.Cluster.tally c.fetch_piece.new.cluster) l.invariant.counted c.in-Err.ensures.counted
 
 pub loop-at-preserved : goal.loop-at-preserved
 loop-at-preserved g c =
@@ -36,5 +43,7 @@ loop-at-preserved g c =
       within = omega (arith, c.loop-at-test.true);
       same = λ tells q. h.same tells q ∙ i.same tells q;
       later = omega (arith, h.later, i.later);
+      counted = counted_then c.args.trace.now l.trace c.fetch_piece.new.trace
+          (g.C.Cluster.tally c.args.cluster.now) (g.C.Cluster.tally l.cluster) (g.C.Cluster.tally c.fetch_piece.new.cluster) i.counted h.counted;
       notes = one_read c.args.trace.now l.trace c.fetch_piece.new.trace l.at i.whole i.notes h.ok_notes;
     }

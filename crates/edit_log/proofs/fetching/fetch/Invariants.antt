@@ -3,7 +3,7 @@ use Rattle.std.specs.Prelude.{min}
 use Rattle.gw_model.specs.declared.object.ObjectId.{ObjectId}
 use Rattle.gw_model.specs.declared.object.ObjectId.TheVariants.{Log}
 use Rattle.append_store.specs.State.{bytes_of}
-use Rattle.edit_log.specs.Notes.{Notes, done_calls}
+use Rattle.edit_log.specs.Notes.{AreCounted, Notes, done_calls}
 use Rattle.edit_log.proofs.fetching.fetch.Given as goal
 
 abbrev pub invariant-loop-at : goal.invariant-loop-at
@@ -15,6 +15,7 @@ invariant-loop-at g l = record {
   within : l.at < l.size + 1048576;
   same : g.C.File.AppendFile.tells → (q : ObjectId) → g.C.Cluster.at l.cluster q ≡ g.C.Cluster.at l.fn.cluster q;
   later : g.C.Cluster.count l.fn.cluster ≤ g.C.Cluster.count l.cluster;
+  counted : AreCounted l.fn.trace l.trace (g.C.Cluster.tally l.fn.cluster) (g.C.Cluster.tally l.cluster);
   notes : Notes l.fn.trace l.trace (done_calls (l.at / 1048576));
 }
 

@@ -1,9 +1,13 @@
 use Rattle.std.proofs.Common.{inr, ◌∙◌, ap, subst, arith, List, ◌+◌}
+use Rattle.gw_outside.specs.Tally.{joined_tally}
 use Rattle.gw_model.specs.declared.object.KeptObject.{KeptObject}
+use Rattle.gw_model.specs.declared.object.ObjectId.{ObjectId}
 use Rattle.gw_model.specs.declared.object.ObjectId.TheVariants.{Log}
+use Rattle.append_store.specs.State.{ObjectState}
 use Rattle.gw_model.specs.Ahead as note
 use Rattle.edit_log.specs.Notes.{EndsAfter, Notes, done_calls, read_count}
-use Rattle.edit_log.specs.Start.{last_generation}
+use Rattle.edit_log.specs.Start.{Stops, last_generation, start_result}
+use Rattle.edit_log.proofs.CountedCalls.{counted_then}
 use Rattle.edit_log.proofs.FetchedLogs.{ends_later, start_noted, stop_noted}
 use Rattle.edit_log.proofs.StartedLogs.{fresh, later_than_all}
 use Rattle.edit_log.proofs.log.Log.start.Goals as goal
@@ -28,6 +32,18 @@ returns-in-Ok-begin-clause-ok_notes g c = record {
       (subst (λ (xs : List KeptObject). Notes c.look.new.trace c.recover.new.trace (done_calls (read_count xs))) c.deref.ensures.value c.in-Ok-recover.ensures.ok_notes) c.in-Ok-begin.ensures.ok_notes;
 }
 
+pub returns-in-Err-recover-clause-stops : goal.returns-in-Err-recover-clause-stops
+returns-in-Err-recover-clause-stops g c = λ tells.
+    let fault = c.in-Err-recover.fault in
+    let all : List KeptObject = c.in-Ok.all.items in
+    let found = subst (λ (xs : List KeptObject). Stops fault (start_result (g.C.Cluster.at c.look.new.cluster) xs)) c.deref.ensures.value (c.in-Err-recover.ensures.found tells) in
+    inr (record {
+      all = all;
+      lists = c.in-Ok.ensures.listed tells;
+      rising = c.in-Ok.ensures.rising;
+      stops = subst (λ (at : ObjectId → ObjectState). Stops fault (start_result at all)) (λ i q. c.look.ensures.same tells q i) found;
+    })
+
 pub returns-in-Err-recover-clause-err_notes : goal.returns-in-Err-recover-clause-err_notes
 returns-in-Err-recover-clause-err_notes g c =
     let all : List KeptObject = c.in-Ok.all.items in
@@ -43,3 +59,24 @@ returns-clause-err_notes g c =
     c.in-Ok.ensures.listed c.in-Ok.ensures.rising (omega arith) c.in-Ok.ensures.ok_notes
     (ends_later (read_count all) 3 e.0 c.in-Err-begin.fault c.look.new.trace c.recover.new.trace c.begin.new.trace
     (subst (λ (xs : List KeptObject). Notes c.look.new.trace c.recover.new.trace (done_calls (read_count xs))) c.deref.ensures.value c.in-Ok-recover.ensures.ok_notes) e.1))
+
+pub returns-in-Ok-begin-clause-ok_counted : goal.returns-in-Ok-begin-clause-ok_counted
+returns-in-Ok-begin-clause-ok_counted g c =
+    let tally = g.C.Cluster.tally in
+    let last = joined_tally (tally c.begin.new.cluster) (g.F.AppendFile.tally c.in-Ok-begin.log.file) in
+    counted_then c.args.trace.now c.look.new.trace c.begin.new.trace (tally c.args.cluster.now) (tally c.look.new.cluster) last c.look.ensures.counted
+    (counted_then c.look.new.trace c.recover.new.trace c.begin.new.trace (tally c.look.new.cluster) (tally c.recover.new.cluster) last
+    c.recover.ensures.counted c.in-Ok-begin.ensures.ok_counted)
+
+pub returns-in-Err-recover-clause-err_counted : goal.returns-in-Err-recover-clause-err_counted
+returns-in-Err-recover-clause-err_counted g c =
+    let tally = g.C.Cluster.tally in
+    counted_then c.args.trace.now c.look.new.trace c.recover.new.trace (tally c.args.cluster.now) (tally c.look.new.cluster) (tally c.recover.new.cluster)
+    c.look.ensures.counted c.recover.ensures.counted
+
+pub returns-clause-err_counted : goal.returns-clause-err_counted
+returns-clause-err_counted g c =
+    let tally = g.C.Cluster.tally in
+    counted_then c.args.trace.now c.look.new.trace c.begin.new.trace (tally c.args.cluster.now) (tally c.look.new.cluster) (tally c.begin.new.cluster) c.look.ensures.counted
+    (counted_then c.look.new.trace c.recover.new.trace c.begin.new.trace (tally c.look.new.cluster) (tally c.recover.new.cluster) (tally c.begin.new.cluster)
+    c.recover.ensures.counted c.in-Err-begin.ensures.err_counted)
