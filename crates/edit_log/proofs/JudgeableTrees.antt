@@ -1,5 +1,5 @@
 -- Every tree of a start and of a run is one over which what is judged fits.
-use Rattle.std.proofs.Common.{◌≡◌, ◌⊎◌, inl, inr, ◌<◌, ◌≤◌, ℕ, Bool, true, false, cond, List, [], ◌∷◌, Option, None, Some, Ok, Result, refl, sym, ◌∙◌, ap, subst, arith, Ordering, Less, Equal, Greater}
+use Rattle.std.proofs.Common.{◌≡◌, ◌⊎◌, inl, inr, ◌<◌, ℕ, Bool, true, false, cond, List, [], ◌∷◌, Option, None, Some, Ok, refl, sym, ◌∙◌, ap, subst, arith, Ordering, Less, Equal, Greater}
 use Rattle.std.specs.Prelude.{◌==◌, ◌&&◌, not, is_none, nat_le, if◌then◌else◌}
 use Rattle.std.specs.Option.{option_map}
 use Rattle.std.specs.Ordering.{nat_cmp, is_eq}
@@ -8,20 +8,19 @@ use Rattle.std.proofs.lemmas.Bool.{eqb-true}
 use Rattle.gw_model.specs.declared.object.KeptObject.{KeptObject}
 use Rattle.gw_model.specs.declared.object.ObjectId.{ObjectId}
 use Rattle.gw_model.specs.declared.object.ObjectId.TheVariants.{Log, Body}
-use Rattle.append_store.specs.State.{ObjectState}
 use Rattle.nfs_types.specs.declared.time.Time.{Time}
 use Rattle.nfs_types.specs.Types.{moment_time}
 use Rattle.name_tree.specs.declared.edit.Edit.{Edit}
 use Rattle.name_tree.specs.declared.edit.Edit.TheVariants.{Make, Remove, Rename, Set}
 use Rattle.name_tree.specs.Directory.{Names, child_in, names_without}
-use Rattle.name_tree.specs.Tree.{Node, Tree, child, edited_next_id, edited_tree, edited_tree_if, has_no_names, id_past, is_dir, is_directory, is_dots, is_fitting, last_id, may_move, may_replace, new_node, node, node_in, node_is_dir, node_with_size, root, root_node, root_tree, tree_after, tree_past, tree_with_size, with_change, with_name, with_new_name, with_parent, with_settings, without_child, without_name, without_node, would_loop}
+use Rattle.name_tree.specs.Tree.{Node, Tree, child, edited_next_id, edited_tree, edited_tree_if, has_no_names, id_past, is_dir, is_directory, is_dots, is_fitting, may_move, may_replace, new_node, node, node_in, node_is_dir, node_with_size, root, root_node, root_tree, tree_after, tree_past, tree_with_size, with_change, with_name, with_new_name, with_parent, with_settings, without_child, without_name, without_node, would_loop}
 use Rattle.name_tree.specs.Flat.{IsSoundTree}
 use Rattle.name_tree.proofs.SortedEntries.{lookup_insert, lookup_remove}
 use Rattle.name_tree.proofs.FlatNodes.{Nodes, at_change}
 use Rattle.edit_log.specs.Edits.{Logged, Edits, DamagedAt, edits_of}
 use Rattle.edit_log.specs.Laws.{RunsWhereJudged, StartsJudgeable, StaysJudgeable}
-use Rattle.edit_log.specs.Run.{AreFitting, AreJudged, Does, IsJudgeable, Learns, Passes, TreeStep, tree_after_step, tree_after_steps}
-use Rattle.edit_log.specs.Start.{Refusal, after_log, is_file, logs_of, start_result, tree_after_log, tree_after_logs, tree_past_edit, tree_with_bodies, tree_with_body, tree_with_edit, tree_with_edits, tree_with_length}
+use Rattle.edit_log.specs.Run.{Does, IsJudgeable, Learns, Passes}
+use Rattle.edit_log.specs.Start.{after_log, is_file, logs_of, tree_after_log, tree_after_logs, tree_past_edit, tree_with_bodies, tree_with_body, tree_with_edit, tree_with_edits, tree_with_length}
 use Rattle.edit_log.proofs.JudgedEdits.{fits_where_judged}
 use Rattle.edit_log.proofs.RunTrees.{recoverable_after, recoverable_past, recoverable_root, recoverable_sized, same_tree}
 use Rattle.edit_log.proofs.StoreLogs.{from_logs}

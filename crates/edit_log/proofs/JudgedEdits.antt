@@ -1,36 +1,24 @@
 -- An edit that is judged over a tree fits it, and is in its ranges.
-use Rattle.std.proofs.Common.{◌≡◌, ◌⊎◌, inl, inr, ◌<◌, ◌≤◌, ℕ, zero, suc, Bool, true, false, cond, List, [], ◌∷◌, Option, None, Some, Ok, refl, sym, ◌∙◌, ap, subst, arith, Ordering, Less, Equal, Greater, length}
+use Rattle.std.proofs.Common.{◌≡◌, ◌⊎◌, inl, inr, ◌<◌, ◌≤◌, ℕ, zero, suc, Bool, true, false, List, [], Option, None, Some, refl, sym, ◌∙◌, ap, subst, arith, length}
 use Rattle.std.specs.Prelude.{◌==◌, ◌&&◌, ◌||◌, not, is_none, is_some, nat_le, nat_lt, if◌then◌else◌}
 use Rattle.std.specs.Option.{option_map}
-use Rattle.std.specs.Ordering.{nat_cmp, is_eq}
-use Rattle.std.specs.BTreeMap.{insert_entry}
-use Rattle.std.proofs.lemmas.Bool.{eqb-true}
 use Rattle.std.proofs.lemmas.Bool.Decides.{nat_tests}
-use Rattle.gw_model.specs.declared.object.KeptObject.{KeptObject}
-use Rattle.gw_model.specs.declared.object.ObjectId.{ObjectId}
-use Rattle.gw_model.specs.declared.object.ObjectId.TheVariants.{Log, Body}
-use Rattle.append_store.specs.State.{ObjectState}
 use Rattle.nfs_types.specs.declared.attr.Attr.{Attr}
 use Rattle.nfs_types.specs.declared.set.SetAttr.{SetAttr}
 use Rattle.nfs_types.specs.declared.time.Time.{Time}
-use Rattle.nfs_types.specs.Types.{moment_time}
 use Rattle.name_tree.specs.declared.edit.Edit.{Edit}
-use Rattle.name_tree.specs.declared.edit.Edit.TheVariants.{Make, Remove, Rename, Set}
+use Rattle.name_tree.specs.declared.edit.Edit.TheVariants.{Remove, Rename}
 use Rattle.name_tree.specs.declared.request.How.{How}
 use Rattle.name_tree.specs.declared.request.How.TheVariants.{Unchecked, Guarded, Exclusive}
 use Rattle.name_tree.specs.declared.request.NameRequest.{NameRequest}
 use Rattle.name_tree.specs.declared.request.NameRequest.TheVariants as request
-use Rattle.name_tree.specs.Directory.{Names, child_in, names_without}
 use Rattle.name_tree.specs.Refusals.{when, ◌>>◌}
 use Rattle.name_tree.specs.Table.{NameJudgement, NameScene, Refuse, Same, Change, ◌⊳◌, attr_change, both_refusal, change_refusal, create_absent, create_by, create_there, dir_removal, file_removal, id_refusal, is_other, is_same_file, is_same_verifier, judge_create, judge_mkdir, judge_remove, judge_rename, judge_rmdir, judge_set, judge_setattr, judge_symlink, make_refusal, may_change, move, name_judgement, name_refusal, new_edit, new_file, no_set, node_attr, setattr_refusal, sets_more, target_refusal, unchecked_there, verifier_in}
-use Rattle.name_tree.specs.Tree.{Node, Tree, child, edited_tree, edited_tree_if, has_no_names, id_past, is_bare, is_dir, is_directory, is_dots, is_fitting, last_id, may_leave, may_move, may_replace, new_node, node, node_in, node_is_dir, node_with_size, root, root_node, root_tree, tree_after, tree_past, tree_with_size, with_change, with_name, with_new_name, with_parent, with_settings, without_child, without_name, without_node, would_loop}
-use Rattle.name_tree.proofs.SortedEntries.{lookup_insert, lookup_remove, same_id}
-use Rattle.name_tree.proofs.FlatNodes.{Nodes, at_change}
-use Rattle.name_tree.specs.Flat.{IsSoundTree}
+use Rattle.name_tree.specs.Tree.{Node, Tree, child, id_past, is_bare, is_dir, is_dots, is_fitting, last_id, may_leave, may_move, may_replace, node, root, would_loop}
+use Rattle.name_tree.proofs.SortedEntries.{same_id}
 use Rattle.edit_log.specs.Edits.{HasNumbers, InRange, IsName, has_bad_byte, is_kind, path_max}
-use Rattle.edit_log.specs.Run.{HasRoomForPath, AreFitting, AreJudged, Does, IsJudgeable, IsJudgedEdit, Learns, Passes, TreeStep, tree_after_step, tree_after_steps}
+use Rattle.edit_log.specs.Run.{HasRoomForPath, IsJudgeable, IsJudgedEdit}
 use Rattle.edit_log.specs.Laws.{FitsWhereJudged, IsInRangeWhereJudged}
-use Rattle.edit_log.proofs.RunTrees.{recoverable_after, recoverable_past, recoverable_root, recoverable_sized}
 
 -- a chain of refusals that comes to an edit
 
@@ -216,10 +204,9 @@ rename_met s dir name to to_name e h =
     moves may id true is h = absurd (leaves_it id e h)
     moves may id false is h =
         let a = goes_on (when (would_loop t id to) 22) (target_refusal t id there ⊳ moved) e h in
-        let b = goes_on (target_refusal t id there) moved e a.1 in
-        (
+        let b = goes_on (target_refusal t id there) moved e a.1 in (
           all_four (is_dir t to) (not (is_dots to_name)) (not (would_loop t id to)) (may_replace t id there)
-          may.in_dir (ap not may.no_dots) (ap not (passed (would_loop t id to) 21 a.0)) (target_fits t id there is b.0),
+              may.in_dir (ap not may.no_dots) (ap not (passed (would_loop t id to) 21 a.0)) (target_fits t id there is b.0),
           same_change (Rename dir name to to_name) e b.1,
         )
 
