@@ -1,0 +1,4 @@
+pub mod ExportNames
+pub mod MountLists
+pub mod NameWalks
+mod Rows

@@ -1,0 +1,2 @@
+pub mod ExportPaths
+pub mod Mounts
