@@ -1,5 +1,6 @@
 -- What stands behind the export path.
-use Rattle.std.proofs.Common.{◌≡◌, ℕ, Bool, true, false, cond, nat_eq, List, [], ◌∷◌, ◌++◌, length, take, drop, Some, None, refl, sym, ap, ◌∙◌, ◌&&◌, option_and_then}
+use Rattle.std.proofs.Common.{◌≡◌, ℕ, Bool, true, false, cond, nat_eq, ◌&&◌, Some, None, option_and_then}
+use Rattle.std.proofs.Common.{List, [], ◌∷◌, ◌++◌, length, take, drop, refl, sym, ap, ◌∙◌}
 use Rattle.std.specs.Str.{bytes_eq}
 use Rattle.mount_proc.specs.ExportPaths.{behind_front, front_of_names, slash}
 
@@ -25,4 +26,5 @@ module _ (export path : List ℕ) where
 
   pub behind_slash : (rest : List ℕ) → bytes_eq export (slash ∷ []) ≡ false → behind_front export path ≡ Some rest
       → behind_front (slash ∷ []) rest ≡ behind_front (front_of_names export) path
-  behind_slash rest other some = rw other (sym (front_of_two export (slash ∷ []) path ∙ ap (option_and_then (behind_front (slash ∷ []))) some))
+  behind_slash rest other some =
+      rw other (sym (front_of_two export (slash ∷ []) path ∙ ap (option_and_then (behind_front (slash ∷ []))) some))

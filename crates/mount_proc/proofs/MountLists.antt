@@ -1,11 +1,12 @@
 -- A mount list stays one: what a pair that is added or taken out makes of it.
-use Rattle.std.proofs.Common.{◌≡◌, ℕ, ◌≤◌, ◌<◌, Bool, true, false, cond, ◌&&◌, ◌||◌, List, [], ◌∷◌, ◌++◌, length, filter, Result, Ok, Err, OnOk, OnErr, refl, sym, subst, arith, length-append, true≢false}
+use Rattle.std.proofs.Common.{◌≡◌, ℕ, ◌≤◌, ◌<◌, Bool, true, false, cond, ◌&&◌, ◌||◌, Result, Ok, Err, OnOk, OnErr}
+use Rattle.std.proofs.Common.{List, [], ◌∷◌, ◌++◌, length, filter, refl, sym, subst, arith, length-append, true≢false}
 use Rattle.std.proofs.lemmas.Cmp.{nat_list_eq_equiv}
 use Rattle.std.proofs.lemmas.List.Folds.{list_any-append}
 use Rattle.nfs_wire.specs.Results.{MountText}
 use Rattle.mount_proc.specs.Mounts.{IsMountList, has_pair_twice, is_mount_of, is_mounted, most_mounts}
 
-same_pair_swap : (m n : MountText) → is_mount_of m.host m.path n ≡ is_mount_of n.host n.path m
+pub same_pair_swap : (m n : MountText) → is_mount_of m.host m.path n ≡ is_mount_of n.host n.path m
 same_pair_swap m n = λ i. nat_list_eq_equiv.symm n.host m.host i && nat_list_eq_equiv.symm n.path m.path i
 
 -- what a filter keeps
@@ -49,7 +50,8 @@ filtered_is_list keeps ms is = record { few = omega (arith, is.few, few_filtered
 once_with : (m : MountText) (ms : List MountText) → is_mounted m.host m.path ms ≡ false → has_pair_twice ms ≡ false
     → has_pair_twice (ms ++ m ∷ []) ≡ false
 once_with m [] new once = refl
-once_with m (n ∷ ms) new once = by (is_mount_of m.host m.path n) (same_pair_swap m n) new (is_mounted n.host n.path ms) refl once (once_with m ms)
+once_with m (n ∷ ms) new once =
+    by (is_mount_of m.host m.path n) (same_pair_swap m n) new (is_mounted n.host n.path ms) refl once (once_with m ms)
   where
     by : (is : Bool) → is ≡ is_mount_of n.host n.path m → (is || is_mounted m.host m.path ms) ≡ false
         → (twice : Bool) → is_mounted n.host n.path ms ≡ twice → (twice || has_pair_twice ms) ≡ false

@@ -30,7 +30,8 @@ unfolding judged dir
 names = refl
 
 -- neither `.`, `..` nor an empty name is listed in a directory
-names_without_file : judged (codes "/") (codes "/none" ∷ codes "/." ∷ codes "/d/.." ∷ codes "//d" ∷ codes "/d//" ∷ codes "///" ∷ []) ≡ replicate 6 (Err 2)
+names_without_file : judged (codes "/") (codes "/none" ∷ codes "/." ∷ codes "/d/.." ∷ codes "//d" ∷ codes "/d//" ∷ codes "///" ∷ [])
+    ≡ replicate 6 (Err 2)
 unfolding judged
 names_without_file = refl
 
@@ -40,7 +41,8 @@ unfolding judged
 names_of_file = refl
 
 -- a name of 255 bytes may stand there, and one of 256 may not, whatever stands behind it
-long_names : judged (codes "/") ((47 ∷ replicate 255 97) ∷ (47 ∷ replicate 256 97) ∷ (47 ∷ (replicate 256 97 ++ codes "/d")) ∷ []) ≡ Err 2 ∷ Err 63 ∷ Err 63 ∷ []
+long_names : judged (codes "/") ((47 ∷ replicate 255 97) ∷ (47 ∷ replicate 256 97) ∷ (47 ∷ (replicate 256 97 ++ codes "/d")) ∷ [])
+    ≡ Err 2 ∷ Err 63 ∷ Err 63 ∷ []
 unfolding judged
 long_names = refl
 
@@ -50,12 +52,14 @@ unfolding judged
 paths_elsewhere = refl
 
 -- an export path that ends with a slash
-export_with_slash : judged (codes "/ex/") (codes "/ex/" ∷ codes "/ex//" ∷ codes "/ex" ∷ codes "/ex/d" ∷ codes "/ex//d" ∷ []) ≡ dir 3 ∷ dir 3 ∷ Err 13 ∷ Err 13 ∷ dir 5 ∷ []
+export_with_slash : judged (codes "/ex/") (codes "/ex/" ∷ codes "/ex//" ∷ codes "/ex" ∷ codes "/ex/d" ∷ codes "/ex//d" ∷ [])
+    ≡ dir 3 ∷ dir 3 ∷ Err 13 ∷ Err 13 ∷ dir 5 ∷ []
 unfolding judged dir
 export_with_slash = refl
 
 -- one that doesn't
-export_without : judged (codes "/ex") (codes "/ex" ∷ codes "/ex/" ∷ codes "/ex//" ∷ codes "/ex/d/" ∷ codes "/exd" ∷ []) ≡ dir 3 ∷ dir 3 ∷ Err 2 ∷ dir 5 ∷ Err 13 ∷ []
+export_without : judged (codes "/ex") (codes "/ex" ∷ codes "/ex/" ∷ codes "/ex//" ∷ codes "/ex/d/" ∷ codes "/exd" ∷ [])
+    ≡ dir 3 ∷ dir 3 ∷ Err 2 ∷ dir 5 ∷ Err 13 ∷ []
 unfolding judged dir
 export_without = refl
 

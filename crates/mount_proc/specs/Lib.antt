@@ -1,2 +1,3 @@
 pub mod ExportPaths
 pub mod Mounts
+pub mod Laws

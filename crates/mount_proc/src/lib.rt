@@ -2,12 +2,14 @@
 #![tactic(auto)]
 
 mod export;
+mod laws;
 mod list;
 mod mount;
 mod path;
 mod refusal;
 
 pub use export::export_text;
+pub use laws::{mount_laws, path_laws};
 pub use list::MountList;
 pub use refusal::MountRefusal;
 

@@ -5,7 +5,8 @@ ghost use Rattle.xdr.specs.Rows.{text};
 ghost use Rattle.nfs_wire.specs.Results.{Dump, results_row};
 ghost use Rattle.nfs_wire.specs.Short.{CanBeSpelled};
 ghost use Rattle.nfs_wire.specs.Views.{mount_view};
-ghost use Rattle.mount_proc.specs.Mounts.{IsMntAnswer, IsMountList, is_mount_of, is_mounted, mnt_judgement, mounts_with, mounts_without, mounts_without_host};
+ghost use Rattle.mount_proc.specs.Mounts.{IsMntAnswer, IsMountList, is_mounted, mnt_judgement};
+ghost use Rattle.mount_proc.specs.Mounts.{mounts_with, mounts_without, mounts_without_host};
 
 use crate::MountRefusal;
 use crate::mount::Mount;

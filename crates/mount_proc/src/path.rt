@@ -2,7 +2,8 @@
 ghost use Rattle.std.specs.Prelude.{◌≡◌, ℕ};
 ghost use Rattle.std.specs.Option.{option_copied};
 ghost use Rattle.name_tree.specs.Tree.{is_dir};
-ghost use Rattle.mount_proc.specs.ExportPaths.{behind_front, directory_by_names, directory_of_path, front_of_names, named_directory, names_between, names_export, slash, without_last_slash};
+ghost use Rattle.mount_proc.specs.ExportPaths.{behind_front, front_of_names, names_between, names_export, without_last_slash};
+ghost use Rattle.mount_proc.specs.ExportPaths.{directory_by_names, directory_of_path, named_directory};
 
 use gw_model::FileId;
 use gw_model::status::{NFS3ERR_ACCES, NFS3ERR_NAMETOOLONG, NFS3ERR_NOENT, NFS3ERR_NOTDIR};

@@ -9,4 +9,6 @@ pub returns : goal.returns
 returns c =
     rw (map-id c.args.mounts.now) at
     (map_from_collect _ c.collect.ensures.ran
-    (YieldsList-from_map_by _ mount_view (λ m. m) (YieldsList-at c.map.ensures.source (YieldsList-from_slice c.args.mounts.now c.iter.ensures.rest)) c.map.ensures.closure (λ x r q k. search rules)))
+    (YieldsList-from_map_by _ mount_view (λ m. m)
+    (YieldsList-at c.map.ensures.source (YieldsList-from_slice c.args.mounts.now c.iter.ensures.rest))
+    c.map.ensures.closure (λ x r q k. search rules)))
