@@ -1,6 +1,5 @@
 // The mount list.
-ghost use Rattle.std.specs.Prelude.{◌≡◌, [], ◌∷◌, ◌++◌, length, map, filter, not, IfOk, OnOk, OnErr};
-ghost use Rattle.std.specs.Str.{bytes_eq};
+ghost use Rattle.std.specs.Prelude.{◌≡◌, [], ◌∷◌, ◌++◌, length, map, IfOk, OnOk, OnErr};
 ghost use Rattle.xdr.specs.Rows.{text};
 ghost use Rattle.nfs_wire.specs.Results.{Dump, results_row};
 ghost use Rattle.nfs_wire.specs.Short.{CanBeSpelled};

@@ -1,7 +1,7 @@
 // What a path names: the export path, or a directory behind it.
-ghost use Rattle.std.specs.Prelude.{◌≡◌, ℕ};
+ghost use Rattle.std.specs.Prelude.{◌≡◌};
 ghost use Rattle.std.specs.Option.{option_copied};
-ghost use Rattle.name_tree.specs.Tree.{is_dir};
+ghost use Rattle.name_tree.specs.Tree.{is_dir, root};
 ghost use Rattle.mount_proc.specs.ExportPaths.{behind_front, front_of_names, names_between, names_export, without_last_slash};
 ghost use Rattle.mount_proc.specs.ExportPaths.{directory_by_names, directory_of_path, named_directory};
 
@@ -76,7 +76,7 @@ fn named_directory(tree: &Tree, dir: FileId, name: &[u8]) -> Result<FileId, u32>
 }
 
 fn directory_by_names(tree: &Tree, names: &[u8]) -> Result<FileId, u32>
-    ensures { result ≡ directory_by_names tree.now.tree (record { 0 = 3 }) (names_between names.now) }
+    ensures { result ≡ directory_by_names tree.now.tree (record { 0 = root }) (names_between names.now) }
 {
     let mut dir = ROOT;
     for name in names.split(|byte| *byte == b'/') {
