@@ -21,8 +21,8 @@ abbrev pub behind_front : List ℕ → List ℕ → Option (List ℕ)
 behind_front front text = if bytes_eq (take (length front) text) front then Some (drop (length front) text) else None
 
 -- the path is the export path; one slash at its end is passed over
-abbrev pub names_export : List ℕ → List ℕ → Bool
-names_export export path = bytes_eq path export || bytes_eq (without_last_slash path) export
+abbrev pub is_export_path : List ℕ → List ℕ → Bool
+is_export_path export path = bytes_eq path export || bytes_eq (without_last_slash path) export
 
 -- what further names stand behind: the export path and a slash; the export path `/` is its own
 abbrev pub front_of_names : List ℕ → List ℕ
@@ -35,7 +35,8 @@ names_between text = slice_split (λ b. b == slash) text
 -- the names behind the export path; nothing where the path doesn't lie there
 abbrev pub further_names : List ℕ → List ℕ → Option (List (List ℕ))
 further_names export path =
-    if names_export export path then Some [] else option_map names_between (behind_front (front_of_names export) (without_last_slash path))
+    if is_export_path export path then Some []
+    else option_map names_between (behind_front (front_of_names export) (without_last_slash path))
 
 -- what a name comes to by what it names
 abbrev pub directory_at : Tree → Option ℕ → Result FileId ℕ

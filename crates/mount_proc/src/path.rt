@@ -2,7 +2,7 @@
 ghost use Rattle.std.specs.Prelude.{◌≡◌};
 ghost use Rattle.std.specs.Option.{option_copied};
 ghost use Rattle.name_tree.specs.Tree.{is_dir, root};
-ghost use Rattle.mount_proc.specs.ExportPaths.{behind_front, front_of_names, names_between, names_export, without_last_slash};
+ghost use Rattle.mount_proc.specs.ExportPaths.{behind_front, front_of_names, is_export_path, names_between, without_last_slash};
 ghost use Rattle.mount_proc.specs.ExportPaths.{directory_by_names, directory_of_path, named_directory};
 
 use gw_model::FileId;
@@ -42,8 +42,8 @@ fn names_behind<'a>(export: &[u8], path: &'a [u8]) -> Option<&'a [u8]>
     behind_front(b"/", rest)
 }
 
-fn names_export(export: &[u8], path: &[u8]) -> bool
-    ensures { result ≡ names_export export.now path.now }
+fn is_export_path(export: &[u8], path: &[u8]) -> bool
+    ensures { result ≡ is_export_path export.now path.now }
 {
     path == export || without_last_slash(path) == export
 }
@@ -94,7 +94,7 @@ fn directory_by_names(tree: &Tree, names: &[u8]) -> Result<FileId, u32>
 pub fn directory_of_path(tree: &Tree, export: &[u8], path: &[u8]) -> Result<FileId, u32>
     ensures { result ≡ directory_of_path tree.now.tree export.now path.now }
 {
-    if names_export(export, path) {
+    if is_export_path(export, path) {
         return Ok(ROOT);
     }
     match names_behind(export, without_last_slash(path)) {
