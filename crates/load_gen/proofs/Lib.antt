@@ -1,0 +1,6 @@
+mod Shuffles
+mod MessageLines
+mod Messages
+mod Excerpts
+mod CallLaws
+mod Rows

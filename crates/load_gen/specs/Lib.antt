@@ -1,0 +1,5 @@
+pub mod Numbers
+pub mod Shuffles
+pub mod Lines
+pub mod Load
+pub mod Laws
