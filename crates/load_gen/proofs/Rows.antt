@@ -1,4 +1,4 @@
--- Worked drills, computed by the definitions: the numbers and texts were made by another program.
+-- Worked drills, computed by the definitions. The numbers and texts were made by another program.
 use Rattle.std.proofs.Common.{◌≡◌, ℕ, List, [], ◌∷◌, ◌++◌, refl}
 use Rattle.std.specs.Prelude.{codes}
 use Rattle.std.specs.List.{range_with_len}
@@ -54,10 +54,14 @@ three_by_seven = refl
 -- the digits of the bytes from 0 to 255
 abbrev each_byte : List ℕ
 each_byte =
-    codes "000102030405060708090a0b0c0d0e0f101112131415161718191a1b1c1d1e1f202122232425262728292a2b2c2d2e2f303132333435363738393a3b3c3d3e3f"
-    ++ codes "404142434445464748494a4b4c4d4e4f505152535455565758595a5b5c5d5e5f606162636465666768696a6b6c6d6e6f707172737475767778797a7b7c7d7e7f"
-    ++ codes "808182838485868788898a8b8c8d8e8f909192939495969798999a9b9c9d9e9fa0a1a2a3a4a5a6a7a8a9aaabacadaeafb0b1b2b3b4b5b6b7b8b9babbbcbdbebf"
-    ++ codes "c0c1c2c3c4c5c6c7c8c9cacbcccdcecfd0d1d2d3d4d5d6d7d8d9dadbdcdddedfe0e1e2e3e4e5e6e7e8e9eaebecedeeeff0f1f2f3f4f5f6f7f8f9fafbfcfdfeff"
+    codes "000102030405060708090a0b0c0d0e0f101112131415161718191a1b1c1d1e1f"
+    ++ codes "202122232425262728292a2b2c2d2e2f303132333435363738393a3b3c3d3e3f"
+    ++ codes "404142434445464748494a4b4c4d4e4f505152535455565758595a5b5c5d5e5f"
+    ++ codes "606162636465666768696a6b6c6d6e6f707172737475767778797a7b7c7d7e7f"
+    ++ codes "808182838485868788898a8b8c8d8e8f909192939495969798999a9b9c9d9e9f"
+    ++ codes "a0a1a2a3a4a5a6a7a8a9aaabacadaeafb0b1b2b3b4b5b6b7b8b9babbbcbdbebf"
+    ++ codes "c0c1c2c3c4c5c6c7c8c9cacbcccdcecfd0d1d2d3d4d5d6d7d8d9dadbdcdddedf"
+    ++ codes "e0e1e2e3e4e5e6e7e8e9eaebecedeeeff0f1f2f3f4f5f6f7f8f9fafbfcfdfeff"
 
 -- a file of one write, made from 0: the WRITE in 612 bytes with its mark
 abbrev write_digits : List ℕ
@@ -88,6 +92,6 @@ smallest_text =
 smallest_drill : drill_transcript 0 1 1 ≡ smallest_text
 unfolding
     md5 digest_bytes hash_after compress rounds block_words word long opaque_text handle_text ids_text digits encode_with
-    next_number left_xor right_xor shuffle number_line message_line load_data args_message write_lines turn_lines window_excerpt windows_excerpt
-    commit_lines file_excerpt files_text file_lines drill_transcript
+    next_number left_xor right_xor shuffle number_line message_line load_data args_message write_lines turn_lines window_excerpt
+    windows_excerpt commit_lines file_excerpt files_text file_lines drill_transcript
 smallest_drill = refl

@@ -13,4 +13,6 @@ pub record IsValidCall (xid : ℕ) (a : Args) : Type 0 where
   pub args : args_of (procedure_of a).0 (procedure_of a).1 (text (args_row a)) ≡ Ok a
 
 abbrev pub EachCallIsValid : Type 0
-EachCallIsValid = (l : FileLoad) (xid j : ℕ) → xid < 2 ^ 32 → j < 2 ^ 32 → IsValidCall xid (load_write l j) × IsValidCall xid (load_commit l)
+EachCallIsValid =
+    (l : FileLoad) (xid j : ℕ) → xid < 2 ^ 32 → j < 2 ^ 32
+    → IsValidCall xid (load_write l j) × IsValidCall xid (load_commit l)

@@ -1,8 +1,8 @@
 // The transcript, file by file and window by window.
 ghost use Rattle.std.specs.Prelude.{◌≡◌, ◌+◌, ◌-◌, ◌*◌, ◌≤◌, ◌<◌, ◌++◌, OnOk, IfOk, length, take};
 ghost use Rattle.std.specs.List.{enumerate_from, flat_map, range_with_len};
-ghost use Rattle.load_gen.specs.Load.{commit_lines, drill_transcript, file_excerpt, file_lines, files_text, load_conn, load_file, load_windows};
-ghost use Rattle.load_gen.specs.Load.{load_handle, turn_lines, window_excerpt, windows_excerpt, write_lines};
+ghost use Rattle.load_gen.specs.Load.{commit_lines, drill_transcript, file_excerpt, file_lines, files_text, load_conn, load_file};
+ghost use Rattle.load_gen.specs.Load.{load_handle, load_windows, turn_lines, window_excerpt, windows_excerpt, write_lines};
 ghost use Rattle.load_gen.specs.Numbers.{seed_number};
 ghost use Rattle.load_gen.specs.Shuffles.{shuffle};
 
