@@ -22,9 +22,10 @@ const AUTH_NONE: u32 = 0;
 /// `stable_how` of a write that may wait for a COMMIT (RFC 1813 section 3.3.7).
 const UNSTABLE: u32 = 0;
 
-/// The procedures that a drill calls (RFC 1813 sections 3.3.7 and 3.3.21).
+/// The procedure WRITE (RFC 1813 section 3.3.7).
 const WRITE: u32 = 7;
 
+/// The procedure COMMIT (RFC 1813 section 3.3.21).
 const COMMIT: u32 = 21;
 
 // What stands in front of the arguments.

@@ -19,7 +19,7 @@ pub const WRITE_LENGTH: usize = 512;
 /// How many writes a window has at most, and how many turns follow it.
 const WINDOW: u32 = 8;
 
-/// About how many bytes the lines of a write have, with its part of those of its window.
+/// For how many bytes room is made for each call, on average more than the lines of a drill have.
 const WRITE_LINES: usize = 1280;
 
 /// The file system of the files.
@@ -253,9 +253,10 @@ fn put_file_lines(text: &mut Vec<u8>, files: u32) -> Result<(), NoMemory>
     Ok(())
 }
 
-/// The transcript of a drill: `files` files are made, 1 to 8, and each gets `writes` writes of 512 bytes, 1 to 4,096, and
-/// a COMMIT. They come in windows of eight, each in an order that is drawn from `start`. It has 45 MB at most, and fails
-/// only for want of memory.
+/// The transcript of a drill: `files` files are made, 1 to 8, and each gets `writes` UNSTABLE WRITEs of 512 bytes, 1 to
+/// 4,096 (RFC 1813 section 3.3.7), and a COMMIT (section 3.3.21). The WRITEs come in windows of eight, each in an order
+/// that is drawn from `start`. The text has about 41 MB at most. It fails only for want of
+/// memory.
 #[tactic(auto, unfolding(crate::specs::Load::drill_transcript))]
 pub fn transcript_of(
     alloc: Global,
