@@ -1,6 +1,6 @@
 -- The laws of listings.
-use Rattle.std.proofs.Common.{◌≡◌, ℕ, suc, ◌+◌, ◌-◌, ◌≤◌, ◌<◌, ◌⊎◌, inl, inr, subst, Bool, true, false, cond, List, [], ◌∷◌, ◌++◌, length, map, Option, Some, None, Result, Ok, Err, refl, sym, ◌∙◌, ap, arith}
-use Rattle.std.specs.Prelude.{nat_le, ◌&&◌, ◌==◌, not, sum_by, min}
+use Rattle.std.proofs.Common.{◌≡◌, ℕ, suc, ◌+◌, ◌-◌, ◌≤◌, ◌<◌, inl, inr, subst, Bool, true, false, cond, List, [], ◌∷◌, ◌++◌, length, map, Option, Some, None, Result, Ok, Err, refl, sym, ◌∙◌, ap, arith}
+use Rattle.std.specs.Prelude.{nat_le, ◌&&◌, ◌==◌, not, sum_by}
 use Rattle.std.proofs.lemmas.Bool.Decides.{nat_tests}
 use Rattle.std.proofs.lemmas.List.Sums.{sum_by-cons}
 use Rattle.gw_model.specs.Statuses as status
@@ -10,7 +10,7 @@ use Rattle.nfs_wire.specs.Results.{EntryText, EntryPlusText, Results, results_ro
 use Rattle.nfs_wire.proofs.RowLengths.{listing_length, listing_plus_length}
 use Rattle.name_tree.specs.Flat.{IsSoundTree}
 use Rattle.name_tree.specs.Tree.{NameEntry, Tree, entry_after}
-use Rattle.name_queries.specs.Listings.{Filled, bounded_count, cookie_verifier, entries_left, entry_plus, entry_room, filled, in_front, listing, name_part, names_listing, no_part, none_fits, plus_listing, readdir_listing, readdirplus_listing}
+use Rattle.name_queries.specs.Listings.{Filled, bounded_count, cookie_verifier, entries_left, entry_plus, entry_room, filled, in_front, name_part, names_listing, no_part, none_fits, plus_listing, readdir_listing, readdirplus_listing}
 use Rattle.name_queries.specs.ListingLaws.{FitsCount, FillsTheFront, GoesOnBehind, IsFilled, ReaddirsFit, ReaddirplusesFit}
 use Rattle.name_queries.proofs.DirectoryEntries.{entries_end, entry_next}
 

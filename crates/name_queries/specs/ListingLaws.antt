@@ -1,5 +1,5 @@
 -- What listings come to, whatever the directory: facts of the definitions, which the contracts cite.
-use Rattle.std.specs.Prelude.{◌≡◌, ◌⊎◌, ◌↔◌, ℕ, ◌≤◌, Bool, true, List, [], ◌∷◌, ◌++◌, Ok}
+use Rattle.std.specs.Prelude.{◌≡◌, ◌⊎◌, ◌↔◌, ℕ, ◌≤◌, true, List, [], ◌∷◌, ◌++◌, Ok}
 use Rattle.xdr.specs.Rows.{row_length}
 use Rattle.nfs_wire.specs.Results.{EntryText, Results, results_row}
 use Rattle.name_tree.specs.Tree.{Tree}

@@ -11,3 +11,6 @@ mod system;
 
 pub use laws::listing_laws;
 pub use query::answer;
+
+#[cfg(test)]
+mod tests;

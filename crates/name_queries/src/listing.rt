@@ -310,16 +310,16 @@ fn plus_text(
 {
     let room = entry_room(maxcount);
     let part_room = bounded_count(dircount);
-    let Ok(names) = fill_plus(alloc, tree, fsid, dir, cookie, room, part_room) else {
+    let Ok(gathered) = fill_plus(alloc, tree, fsid, dir, cookie, room, part_room) else {
         return Err(Refused::Memory);
     };
-    if names.none_fits() {
+    if gathered.none_fits() {
         return Err(Refused::Status(NFS3ERR_TOOSMALL));
     }
     let res = Res::Readdirplus {
         verifier: VERIFIER,
-        entries: names.entries.as_slice(),
-        eof: names.eof,
+        entries: gathered.entries.as_slice(),
+        eof: gathered.eof,
     };
     match res_text(alloc, &res) {
         Ok(text) => Ok(text),
