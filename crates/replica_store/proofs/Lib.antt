@@ -1,5 +1,23 @@
+pub mod Answering
+pub mod Asking
+pub mod Behind
+pub mod Changes
+pub mod Crashing
+pub mod Creating
+pub mod Deleting
+pub mod Entries
+pub mod Extending
 pub mod Files
+pub mod Giving
+pub mod InTurn
 pub mod Leading
 pub mod Marking
+pub mod Named
 pub mod Pairs
+pub mod Reopened
 mod Rows
+pub mod Seating
+pub mod Serving
+pub mod Taking
+pub mod Told
+pub mod Walking

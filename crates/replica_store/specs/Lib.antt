@@ -1,2 +1,9 @@
+pub mod Copying
+pub mod Kept
+pub mod Levels
 pub mod Marks
+pub mod Objects
 pub mod Parts
+pub mod Reopening
+pub mod Seats
+pub mod Steps

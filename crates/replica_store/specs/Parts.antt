@@ -85,6 +85,7 @@ pub record Syncs (told : Type 0) (old new : PartState) : Type 0 where
   pub durable : told → old.durable ≤ new.durable
   pub later : old.count ≤ new.count
   pub called : IsCalled old → new.tally ≡ one_call (not new.live) old.tally
+  pub failing : old.tally.failed ≤ new.tally.failed
 
 -- what a read does to a member's file: one that fails is dropped
 pub record Reads (told : Type 0) (old new : PartState) : Type 0 where

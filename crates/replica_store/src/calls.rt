@@ -1,7 +1,7 @@
 // The calls that a replica or its file answered.
-ghost use Rattle.std.specs.Prelude.{◌≡◌, true, false};
+ghost use Rattle.std.specs.Prelude.{◌≡◌, ◌+◌, ◌-◌, ◌^◌, min, true, false};
 ghost use Rattle.gw_outside.specs.Causes.{next_count};
-ghost use Rattle.gw_outside.specs.Tally.{no_calls, one_call};
+ghost use Rattle.gw_outside.specs.Tally.{joined_tally, no_calls, one_call};
 ghost use Rattle.gw_outside.specs.declared.tally.Tally.{Tally};
 
 use gw_outside::Tally;
@@ -37,5 +37,13 @@ impl Answered {
     {
         self.refusals = self.refusals.saturating_add(1);
         self.tally.count(true);
+    }
+
+    // Adds the calls of a file that was given back, and so many faults.
+    pub(crate) fn join(&mut self, refusals: u64, tally: Tally)
+        ensures { self.new ≡ record { refusals = min (self.old.refusals + refusals) (2 ^ 64 - 1); tally = joined_tally self.old.tally tally } }
+    {
+        self.refusals = self.refusals.saturating_add(refusals);
+        self.tally.join(tally);
     }
 }

@@ -5,6 +5,7 @@ use crate::calls::Answered;
 use crate::parts::{
     Lead, Part, append_all, count_faults, count_live, len_of, read_first, sync_each,
 };
+use crate::seats::Known;
 use append_store::{AppendFault, AppendFile, StoreFault};
 use std::marker::Model;
 
@@ -63,6 +64,20 @@ impl<F: AppendFile> ReplicaFile<F> {
         ensures { result.items ≡ self.parts }
     {
         self.parts
+    }
+
+    // What is to be kept of the object when the file goes back, and the calls that it answered.
+    pub(crate) fn into_kept(self) -> (Known<F>, Answered)
+        ensures copies { AreCopies F.tells result.0.parts result.0.chief result.0.synced }
+        ensures kept { result.0 ≡ record { chief = self.chief; synced = self.synced; parts = self.parts } }
+        ensures answered { result.1 ≡ self.answered }
+    {
+        let kept = Known {
+            chief: self.chief,
+            synced: self.synced,
+            parts: self.parts,
+        };
+        (kept, self.answered)
     }
 
     /// Whenever no call is under way, all files that are written have the bytes of the chief, and

@@ -92,6 +92,7 @@ pub(crate) fn drop_if_short<F: AppendFile>(part: &mut Part<F>, most: u64)
 }
 
 // Makes one file durable, if it is still written, and drops it where that fails.
+#[tactic(auto, using(crate::proofs::Serving::failed_later))]
 pub(crate) fn sync_one<F: AppendFile>(part: &mut Part<F>)
     ensures { Syncs F.tells part.old part.new }
 {
@@ -173,7 +174,7 @@ pub(crate) fn count_faults<F: AppendFile>(parts: &Vec<Part<F>>, refusals: u64) -
 }
 
 // How many bytes the last append kept in one file.
-fn kept_of<F: AppendFile>(parts: &Vec<Part<F>>, lead: usize) -> u64
+pub(crate) fn kept_of<F: AppendFile>(parts: &Vec<Part<F>>, lead: usize) -> u64
     requires { lead < vec_len parts.now }
     ensures { result ≡ (part_of parts.now.items lead).kept }
 {
@@ -210,12 +211,23 @@ pub(crate) fn len_of<F: AppendFile>(parts: &Vec<Part<F>>, index: usize) -> u64
 }
 
 // How many bytes a member's file has.
-fn size_of<F: AppendFile>(part: &Part<F>) -> u64
+pub(crate) fn size_of<F: AppendFile>(part: &Part<F>) -> u64
     ensures value { result ≡ length part.now.content }
     ensures low { result < 2 ^ 63 }
 {
     match &part.file {
         Some(file) => file.len(),
+        None => 0,
+    }
+}
+
+// How many bytes the file at a place has; 0 where there is none.
+pub(crate) fn size_at<F: AppendFile>(parts: &Vec<Part<F>>, index: usize) -> u64
+    ensures value { result ≡ length (part_of parts.now.items index).content }
+    ensures low { result < 2 ^ 63 }
+{
+    match parts.get(index) {
+        Some(part) => size_of(part),
         None => 0,
     }
 }

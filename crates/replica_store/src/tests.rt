@@ -1,9 +1,10 @@
-ghost use Rattle.std.specs.Prelude.{◌≡◌, [], IfOk};
+ghost use Rattle.std.specs.Prelude.{◌≡◌, [], true, IfOk};
 ghost use Rattle.gw_model.specs.declared.object.ObjectId.{ObjectId};
-ghost use Rattle.append_store.specs.State.{Missing};
+ghost use Rattle.append_store.specs.State.{IsThere, Missing};
+ghost use Rattle.replica_store.specs.Seats.{seat_view, told_in};
 
 use super::*;
-use append_store::{AppendFault, AppendFile, Cluster, MemCluster, Planned, StoreFault};
+use append_store::{AppendFile, Cluster, MemCluster, Planned, StoreFault};
 use gw_model::ObjectId;
 use std::alloc::Global;
 use std::test::Fail;
@@ -55,6 +56,58 @@ fn give_back<C: Cluster>(cluster: &mut C, part: Option<Part<C::File>>) {
     }
 }
 
+// Makes the body in a store that has nothing, with "abcde" in it, durable.
+fn stores_five<C: Cluster>(cluster: &mut C) -> bool
+    requires { C.File.tells → C.at cluster.old BODY ≡ Missing }
+    ensures { C.File.tells → result ≡ true → IsThere (C.at cluster.new BODY) }
+{
+    if cluster.create(BODY).is_err() {
+        return false;
+    }
+    let Ok(mut file) = cluster.take_file(BODY) else {
+        return false;
+    };
+    let written = file.append(b"abcde").is_ok() && file.hsync().is_ok();
+    cluster.give_file(BODY, file);
+    written
+}
+
+// Whether each member has the five bytes.
+fn has_five(seat: Option<Seat<MemCluster>>) -> bool {
+    match seat {
+        Some(seat) => seat.into_cluster().content_of(BODY) == Some(b"abcde".as_slice()),
+        None => false,
+    }
+}
+
+// A store over two that have nothing, both of which make a quorum.
+fn over_two<C: Cluster>(alloc: Global, a: C, b: C) -> Result<Replica<C>, Fail>
+    requires a { (q : ObjectId) → C.at a q ≡ Missing }
+    requires b { (q : ObjectId) → C.at b q ≡ Missing }
+    ensures { IfOk result (λ r. (q : ObjectId) → told_in (seat_view C.at C.losses C.count) r q ≡ Missing) }
+{
+    let mut seats = Vec::new(alloc);
+    seats.push(Seat::new(a)).map_err(|_| "first")?;
+    seats.push(Seat::new(b)).map_err(|_| "second")?;
+    Ok(Replica::new(alloc, seats, 2))
+}
+
+#[test]
+fn each_member_gets_what_is_stored(rt: HostRuntime) -> Result<(), Fail> {
+    let alloc = rt.alloc();
+    let first = MemCluster::new(alloc, Vec::new(alloc));
+    let second = MemCluster::new(alloc, Vec::new(alloc));
+    let mut store = over_two(alloc, first, second)?;
+    assert!(rt; stores_five(&mut store));
+    let mut out = [0; 3];
+    assert_eq!(rt; store.read_closed(BODY, 1, &mut out), Ok(3));
+    assert_eq!(rt; out, *b"bcd");
+    let mut seats = store.into_seats().into_iter();
+    assert!(rt; has_five(seats.next()));
+    assert!(rt; has_five(seats.next()));
+    Ok(())
+}
+
 #[test]
 fn drops_a_member_whose_append_fails(rt: HostRuntime) -> Result<(), Fail> {
     let alloc = rt.alloc();
@@ -84,29 +137,5 @@ fn drops_a_member_whose_append_fails(rt: HostRuntime) -> Result<(), Fail> {
     assert_eq!(rt; first.content_of(BODY), Some(b"abcde".as_slice()));
     assert_eq!(rt; second.content_of(BODY), Some(b"ab".as_slice()));
     assert_eq!(rt; third.content_of(BODY), Some(b"abcde".as_slice()));
-    Ok(())
-}
-
-#[test]
-fn reads_the_next_member_where_one_fails(rt: HostRuntime) -> Result<(), Fail> {
-    let alloc = rt.alloc();
-    let mut first = MemCluster::new(alloc, vec![in alloc; fails_at(4)]?);
-    let mut second = MemCluster::new(alloc, vec![in alloc; fails_at(5)]?);
-    let mut third = MemCluster::new(alloc, vec![in alloc; fails_at(4)]?);
-    let (a, b, c) = (
-        taken_anew(&mut first)?,
-        taken_anew(&mut second)?,
-        taken_anew(&mut third)?,
-    );
-    let mut file = over_three(alloc, a, b, c)?;
-    assert_eq!(rt; file.append(b"abcde"), Ok(()));
-    let mut out = [0; 3];
-    assert_eq!(rt; file.read_at(1, &mut out), Ok(3));
-    assert_eq!(rt; out, *b"bcd");
-    assert_eq!(rt; file.live(), 2);
-    assert_eq!(rt; file.read_at(1, &mut out), Err(StoreFault));
-    assert_eq!(rt; file.live(), 0);
-    assert_eq!(rt; file.faults(), 4);
-    assert_eq!(rt; file.append(b"f"), Err(AppendFault { kept: 0 }));
     Ok(())
 }

@@ -1,0 +1,23 @@
+use Rattle.std.proofs.Common.{arith}
+use Rattle.std.proofs.lemmas.List.{length-set}
+use Rattle.replica_store.specs.Seats.{IsUnused, seat_view}
+use Rattle.replica_store.proofs.InTurn.{all_together, together_further, together_next}
+use Rattle.replica_store.proofs.rounds.make_each.Goals as goal
+
+pub make_one-requires : goal.make_one-requires
+make_one-requires g c = together_next _ (λ s. IsUnused g.C.File.AppendFile.tells c.args.object (seat_view g.C.Cluster.at g.C.Cluster.losses g.C.Cluster.count s)) _ _ _ _ _ _ _ c.loop-i.invariant.0 c.requires.unused c.index_mut.ensures.value (omega (arith, c.loop-i.invariant.1, c.loop-i-test.true, c.len-i-end.ensures))
+
+pub loop-i-preserved : goal.loop-i-preserved
+loop-i-preserved g c =
+    let a = c.loop-i.invariant.1 in
+    let b = c.loop-i.invariant.2 in (
+      together_further _ _ _ _ _ _ _ _ _ _ _ _ c.loop-i.invariant.0 c.index_mut.ensures.value c.index_mut-in-loop-i.ensures.value (omega (arith, a, c.loop-i-test.true, c.len-i-end.ensures)) (omega (arith, b, c.loop-i-test.true, c.len-i-end.ensures)) c.make_one.ensures,
+      let e = length-set c.loop-i.seats.items c.loop-i.i c.make_one.new.seat in omega (arith, a, e),
+      let e = length-set c.loop-i.parts.items c.loop-i.i c.make_one.new.part in omega (arith, b, e),
+    )
+
+pub returns : goal.returns
+returns g c =
+    let a = c.loop-i.invariant.1 in
+    let b = c.loop-i.invariant.2 in
+    all_together _ _ _ _ _ _ c.loop-i.invariant.0 (omega (arith, a, c.loop-i-test.false, c.len-i-end.ensures)) (omega (arith, b, c.loop-i-test.false, c.len-i-end.ensures))
