@@ -11,6 +11,7 @@ use Rattle.gw_model.specs.Admission.{WriteRequest, ReadRequest, write_step}
 use Rattle.gw_model.specs.Statuses.{io}
 use Rattle.gw_model.specs.Sides.{SideStep, opened_side}
 use Rattle.gw_model.specs.Views.{TraceState}
+use Rattle.gw_config.specs.Settings.{Settings}
 use Rattle.tickets.specs.Desk.{DeskState}
 use Rattle.append_store.specs.State.{bytes_of}
 use Rattle.writeback.specs.State.{FileSeen, fresh_writer}
@@ -26,7 +27,7 @@ use Rattle.admit.specs.Calls as admit
 use Rattle.admit.specs.Calls.{verdict_answers, is_refusal}
 use Rattle.admit.specs.declared.request.Verdict.{Verdict}
 use Rattle.admit.specs.declared.request.WriteReq.{WriteReq}
-use Rattle.file_calls.specs.Part.{Part, PartResult, send_result, answers_result, answer_result, refusal_result, request_result, defaults, file_step_result, first_write_result, write_act_result, read_act_result, call_read_request, stored_read_result, read_action, stored_range}
+use Rattle.file_calls.specs.Part.{Part, PartResult, send_result, answers_result, answer_result, refusal_result, request_result, file_step_result, first_write_result, write_act_result, read_act_result, call_read_request, stored_read_result, read_action, stored_range}
 use Rattle.file_calls.specs.Outside.{CarriesCounts, PartState, Store, body_at, counts_at, scene, IsOpen, IsPart, ahead_at, Action, StepsFrom}
 use Rattle.file_calls.specs.Counts.{Counts, IsCounted, file_counts}
 use Rattle.file_calls.specs.Opening.{IsOpened, FailsClosed, IsStoredRange}
@@ -78,10 +79,11 @@ module _ (tells : Type 0) (go : Action) (by : After) (refusal : Body) (mid : Par
       let counts : IsCounted (Failed 0 ∷ []) s.counts s'.counts = subst (λ cs. IsCounted (map outcome_of cs) s.counts s'.counts) e.is e.counts in
       rw noted (
       sent_step tells go (scene mid s) (scene (part_with_sent (reply mid.desk.last refusal) (noting (with_calls (Bad 0 ∷ []) mid.noted) mid)) s') (reply mid.desk.last refusal) (Failed 0 ∷ [])
-      refl refl refl (λ later fine. tt) (same_of failure.Store e) (counted (Failed 0 ∷ []) counts) refl
+      refl refl refl refl (λ later fine. tt) (same_of failure.Store e) (counted (Failed 0 ∷ []) counts) refl
       (λ told w h later fine. (
         w,
         stays failure.Store e told w h,
+        refl,
         refl,
         goes w (ahead_at mid.noted (Failed 0 ∷ later)) (here w h).0 (ap (λ (d : DeskState). d.last) h.desk) ∙ bad w (ahead_at mid.noted later) (is_refused (ahead_at mid.noted later)) (ap (λ (d : DeskState). d.last) h.desk),
       )))
@@ -93,11 +95,12 @@ module _ (tells : Type 0) (go : Action) (by : After) (refusal : Body) (mid : Par
       let none_made : IsCounted [] s.counts s'.counts = subst (λ cs. IsCounted (map outcome_of cs) s.counts s'.counts) none counts in
       rw none (
       sent_step tells go (scene mid s) (scene (part_with_refusal mid.desk.last (noting (with_calls [] mid.noted) mid)) s') (reply mid.desk.last SystemErr) (NoMemory mid.noted.event mid.noted.request ∷ [])
-      refl refl (ap (λ os. os ++ NoMemory mid.noted.event mid.noted.request ∷ []) (append-nil mid.noted.outcomes)) (λ later fine. from_here mid.noted later)
+      refl refl refl (ap (λ os. os ++ NoMemory mid.noted.event mid.noted.request ∷ []) (append-nil mid.noted.outcomes)) (λ later fine. from_here mid.noted later)
       (λ told. ap (body_at s'.body) closed ∙ same told ∙ sym (ap (body_at s.body) closed)) (counted _ (with_refusal_counted [] s.counts s'.counts mid.noted.event mid.noted.request none_made)) refl
       (λ told w h later fine. (
         w,
         subst (λ b. IsOpen mid.opened b w) (sym (ap (body_at s'.body) closed ∙ same told ∙ sym (ap (body_at s.body) closed))) h.opened,
+        refl,
         refl,
         refusal_is go mid.noted w later ∙ ap (λ t. answers_result w (reply t SystemErr) (ahead_at mid.noted later)) (ap (λ (d : DeskState). d.last) h.desk),
       )))
@@ -105,13 +108,14 @@ module _ (tells : Type 0) (go : Action) (by : After) (refusal : Body) (mid : Par
       let one_made : IsCounted (Done ∷ []) s.counts s'.counts = subst (λ cs. IsCounted (map outcome_of cs) s.counts s'.counts) one counts in
       rw one (
       sent_step tells go (scene mid s) (scene (part_with_refusal mid.desk.last (noting (with_calls (Good ∷ []) mid.noted) mid)) s') (reply mid.desk.last SystemErr) (Done ∷ NoMemory mid.noted.event mid.noted.request ∷ [])
-      refl refl (append_assoc mid.noted.outcomes (Done ∷ []) (NoMemory mid.noted.event mid.noted.request ∷ [])) (λ later fine. tt)
+      refl refl refl (append_assoc mid.noted.outcomes (Done ∷ []) (NoMemory mid.noted.event mid.noted.request ∷ [])) (λ later fine. tt)
       (λ told. ap (body_at s'.body) closed ∙ same told ∙ sym (ap (body_at s.body) closed)) (counted _ (with_refusal_counted (Done ∷ []) s.counts s'.counts mid.noted.event mid.noted.request one_made)) refl
       (λ told w h later fine.
       let last = ap (λ (d : DeskState). d.last) h.desk in
       let t = ahead_at mid.noted (NoMemory mid.noted.event mid.noted.request ∷ later) in (
         w,
         subst (λ b. IsOpen mid.opened b w) (sym (ap (body_at s'.body) closed ∙ same told ∙ sym (ap (body_at s.body) closed))) h.opened,
+        refl,
         refl,
         goes w (ahead_at mid.noted (Done ∷ NoMemory mid.noted.event mid.noted.request ∷ later)) (here w h).0 last ∙ ap (λ b. by Good b w t) (refused_here mid.noted later) ∙ want w t last,
       )))
@@ -127,13 +131,14 @@ module _ (tells : Type 0) (go : Action) (by : After) (refusal : Body) (mid : Par
   stored_read body done noted same counts =
       rw noted (
       sent_step tells go (scene mid s) (scene (part_with_sent (reply mid.desk.last body) (noting (with_calls (Good ∷ []) mid.noted) mid)) s') (reply mid.desk.last body) (Done ∷ [])
-      refl refl refl (λ later fine. tt)
+      refl refl refl refl (λ later fine. tt)
       (λ told. ap (body_at s'.body) closed ∙ same told ∙ sym (ap (body_at s.body) closed)) (counted (Done ∷ []) counts) refl
       (λ told w h later fine.
       let last = ap (λ (d : DeskState). d.last) h.desk in
       let t = ahead_at mid.noted later in (
         w,
         subst (λ b. IsOpen mid.opened b w) (sym (ap (body_at s'.body) closed ∙ same told ∙ sym (ap (body_at s.body) closed))) h.opened,
+        refl,
         refl,
         goes w (ahead_at mid.noted (Done ∷ later)) (here w h).0 last ∙ ap (λ b. by Good b w t) (not_refused mid.noted later fine) ∙ done told w t (here w h).1 last,
       )))
@@ -165,7 +170,7 @@ module _ (tells : Type 0) (mid : PartState) (s s' : Store) (noted' : TraceState)
   unwritten new e is = wanting_step tells (going q) (first q) (NotWritten io) mid s s' noted' closed goes bad want new e is
 
   -- the file was opened, and the request was answered or is held
-  pub opening_step : (c d : CellState) (r : WriteReq) (told : SideStep) (v : Verdict) (file : ℕ) → IsOpened tells file c s s' mid.noted noted' → q ≡ admit.write_request r → is_refusal v ≡ false → CellTells v r.ticket c told d → cell.CellWrites v c r d
+  pub opening_step : (c d : CellState) (r : WriteReq) (told : SideStep) (v : Verdict) (file : ℕ) → IsOpened tells mid.settings.limits file c s s' mid.noted noted' → q ≡ admit.write_request r → is_refusal v ≡ false → CellTells v r.ticket c told d → cell.CellWrites v c r d
       → StepsFrom tells (IsFrom mid.noted) (request_result (going q)) (scene mid s) (scene (part_with_verdict v (with_cell d (noting noted' mid))) s') (send_result mid.desk (verdict_answers v)).text false
   opening_step c d r told v file o is e t w =
       let same = told_file v r.ticket c told d t in
@@ -174,7 +179,7 @@ module _ (tells : Type 0) (mid : PartState) (s s' : Store) (noted' : TraceState)
       let body : tells → d.file.content ≡ bytes_of s.body = λ told. ap (λ x. x.content) same ∙ o.content told in
       rw (e, o.noted_is) (
       sent_step tells (going q) (scene mid s) (scene (part_with_sent (verdict_answers v) (with_cell d (noting (with_calls (Good ∷ []) mid.noted) mid))) s') (verdict_answers v) (Done ∷ [])
-      refl refl refl (λ later fine. tt) (λ told. body told ∙ sym (ap (body_at s.body) closed)) counts refl
+      refl refl refl refl (λ later fine. tt) (λ told. body told ∙ sym (ap (body_at s.body) closed)) counts refl
       (λ told x h later fine.
       let at = subst (λ k. IsOpen k (body_at s.body k) x) closed h.opened in
       let u = ahead_at mid.noted later in
@@ -183,13 +188,15 @@ module _ (tells : Type 0) (mid : PartState) (s s' : Store) (noted' : TraceState)
       let stands : StandsFor c (opened_file x.body None 0)
       = open_law c x.body None 0 (o.base ∙ long) (o.side ∙ ap (λ k. opened_side k None 0) long) (o.writer ∙ ap fresh_writer long) whole in
       let m = w (opened_file x.body None 0) u stands (not_refused mid.noted later fine ∙ sym e) in
-      let m' = subst (λ l. CellFollows v u (write_step l (opened_file x.body None 0) (admit.write_request r) u) d) o.limits m in
-      let f = of_follows v x u (write_step defaults (opened_file x.body None 0) (admit.write_request r) u) d m' e in (
+      let limits = o.limits_are ∙ ap (λ (k : Settings). k.limits) (sym h.settings) in
+      let m' = subst (λ l. CellFollows v u (write_step l (opened_file x.body None 0) (admit.write_request r) u) d) limits m in
+      let f = of_follows v x u (write_step x.settings.limits (opened_file x.body None 0) (admit.write_request r) u) d m' e in (
         f.0,
         f.1,
         f.2,
+        f.3,
         goes x (ahead_at mid.noted (Done ∷ later)) at.0 (ap (λ (k : DeskState). k.last) h.desk) ∙ ap (λ b. first_write_result Good b x q u) (not_refused mid.noted later fine)
-            ∙ ap (λ y. file_step_result x (write_step defaults (opened_file x.body None 0) y u)) is ∙ f.3,
+            ∙ ap (λ y. file_step_result x (write_step x.settings.limits (opened_file x.body None 0) y u)) is ∙ f.4,
       )))
 
 -- READ

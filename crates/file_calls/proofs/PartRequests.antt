@@ -5,6 +5,8 @@ use Rattle.std.proofs.lemmas.Bool.Decides.{nat_tests}
 use Rattle.gw_model.specs.Ahead.{Outcomes, Outcome, Done, Failed, Listed, NoMemory, is_refused}
 use Rattle.gw_model.specs.File.{Answer, SystemErr, File, Step}
 use Rattle.gw_model.specs.Views.{TraceState, next_event, next_request}
+use Rattle.gw_model.specs.declared.limits.Limits.{Limits}
+use Rattle.gw_config.specs.Settings.{Settings}
 use Rattle.tickets.specs.Desk.{TicketId, DeskState, with_issued, with_answered, with_cancelled, waiting_ticket}
 use Rattle.file_cell.specs.State.{CellState}
 use Rattle.file_cell.specs.Files as cell
@@ -22,7 +24,7 @@ use Rattle.file_calls.specs.Replies.{closed_line}
 use Rattle.file_calls.specs.declared.call.ReadCall.{ReadCall}
 use Rattle.file_calls.specs.declared.call.WriteCall.{WriteCall}
 use Rattle.file_calls.specs.Counts.{IsCounted, file_counts, joined_counts}
-use Rattle.file_calls.specs.Part.{Part, part_body, next_part, send_result, answers_result, text_to, file_step_result, with_request, unless_refused, request_result, new_request_result, defaults, reply_action, write_action, read_action, write_act_result, read_act_result, call_write_request, call_read_request}
+use Rattle.file_calls.specs.Part.{Part, part_body, next_part, send_result, answers_result, text_to, file_step_result, with_request, unless_refused, request_result, new_request_result, reply_action, write_action, read_action, write_act_result, read_act_result, call_write_request, call_read_request}
 use Rattle.file_calls.specs.Outside.{PartState, Scene, Store, body_at, counts_at, scene, IsOpen, IsPart, ahead_at, IsAfter, Notes, LeavesScene, Action, StepsFrom, Steps, IsStep, IsActCut}
 use Rattle.gw_model.specs.Sides.{SideStep}
 use Rattle.file_cell.specs.Steps.{CellTells}
@@ -93,10 +95,10 @@ body_is s w h = go s.kept.opened h.opened
     go (Some c) (f, opened, stands, is) = rw opened is
 
 -- answers are sent from a part
-pub sending : (v : Part) (new : Scene) (d : DeskState) (answers : List Answer) (later : List Outcome) → IsOpen new.kept.opened new.body v → v.desk ≡ d → new.kept.desk ≡ (send_result d answers).desk
+pub sending : (v : Part) (new : Scene) (d : DeskState) (answers : List Answer) (later : List Outcome) → IsOpen new.kept.opened new.body v → v.desk ≡ d → new.kept.desk ≡ (send_result d answers).desk → v.settings ≡ new.kept.settings
     → LeavesScene new (send_result d answers).text false later (answers_result v answers (ahead_at new.kept.noted later))
-sending v new d answers later opened same desk = record {
-  part = record { opened = open_with_desk new.kept.opened new.body v (send_result v.desk answers).desk opened; desk = ap (λ x. (send_result x answers).desk) same ∙ sym desk };
+sending v new d answers later opened same desk settings = record {
+  part = record { opened = open_with_desk new.kept.opened new.body v (send_result v.desk answers).desk opened; desk = ap (λ x. (send_result x answers).desk) same ∙ sym desk; settings = settings };
   text_is = ap (λ x. (send_result x answers).text) same;
   stop = refl;
   ahead = refl;
@@ -109,7 +111,7 @@ cut_still tells act old new notes same counts = inl (record { notes = notes; cou
 -- a request that has its number and its ticket
 module _ (tells : Type 0) (conn xid notes : ℕ) (ticket : TicketId) (old mid : PartState) (s : Store) (a : IsAsked conn xid notes ticket old mid) where
   asked_part : (w : Part) → IsPart (scene old s) w → IsPart (scene mid s) (with_request conn xid w)
-  asked_part w h = record { opened = rw a.opened (open_with_desk old.opened (body_at s.body old.opened) w (with_issued conn xid w.desk) h.opened); desk = ap (with_issued conn xid) h.desk ∙ sym a.desk }
+  asked_part w h = record { opened = rw a.opened (open_with_desk old.opened (body_at s.body old.opened) w (with_issued conn xid w.desk) h.opened); desk = ap (with_issued conn xid) h.desk ∙ sym a.desk; settings = h.settings ∙ sym a.settings }
 
   pub asked_step : (go : Action) (new : Scene) (text : List ℕ) → StepsFrom tells (IsFrom mid.noted) (request_result go) (scene mid s) new text false → Steps tells (new_request_result conn xid go) (scene old s) new text false
   asked_step go new text t =
@@ -130,15 +132,15 @@ module _ (tells : Type 0) (conn xid notes : ℕ) (ticket : TicketId) (old mid : 
 -- What a request that has its ticket does, at a scene whose event and request stand.
 module _ (tells : Type 0) (go : Action) (mid new : Scene) (answers : List Answer) (outcomes : List Outcome) where
   -- Its answers are sent, with no byte put.
-  pub sent_step : (event : new.kept.noted.event ≡ mid.kept.noted.event) (request : new.kept.noted.request ≡ mid.kept.noted.request)
+  pub sent_step : (event : new.kept.noted.event ≡ mid.kept.noted.event) (request : new.kept.noted.request ≡ mid.kept.noted.request) (still : new.kept.settings ≡ mid.kept.settings)
       → Notes mid new outcomes
       → ((later : List Outcome) → IsAfter new.kept.noted later → IsFrom mid.kept.noted (outcomes ++ later))
       → (tells → new.body ≡ mid.body) → IsCounted outcomes mid.counts new.counts
       → new.kept.desk ≡ (send_result mid.kept.desk answers).desk
       → (tells → (w : Part) → IsPart mid w → (later : List Outcome) → IsAfter new.kept.noted later
-      → (v : Part) × IsOpen new.kept.opened new.body v × (v.desk ≡ w.desk) × (request_result go w (ahead_at mid.kept.noted (outcomes ++ later)) ≡ answers_result v answers (ahead_at mid.kept.noted later)))
+      → (v : Part) × IsOpen new.kept.opened new.body v × (v.desk ≡ w.desk) × (v.settings ≡ w.settings) × (request_result go w (ahead_at mid.kept.noted (outcomes ++ later)) ≡ answers_result v answers (ahead_at mid.kept.noted later)))
       → StepsFrom tells (IsFrom mid.kept.noted) (request_result go) mid new (send_result mid.kept.desk answers).text false
-  sent_step event request notes from same counts desk comes = record {
+  sent_step event request still notes from same counts desk comes = record {
     outcomes = outcomes;
     put = [];
     notes = notes;
@@ -146,11 +148,11 @@ module _ (tells : Type 0) (go : Action) (mid new : Scene) (answers : List Answer
     passed = record { after = from; puts = λ told. same told ∙ sym (append-nil mid.body); counts = counts };
     next = λ told w h later fine.
         let c = comes told w h later fine in
-        let g = sending c.0 new mid.kept.desk answers later c.1 (c.2 ∙ h.desk) desk in
+        let g = sending c.0 new mid.kept.desk answers later c.1 (c.2 ∙ h.desk) desk (c.3 ∙ h.settings ∙ sym still) in
         let ahead : ahead_at mid.kept.noted later ≡ ahead_at new.kept.noted later
         = ap (λ e. let t : Outcomes = record { left = later; event = e; request = mid.kept.noted.request; mismatched = false } in t) (sym event)
         ∙ ap (λ r. let t : Outcomes = record { left = later; event = new.kept.noted.event; request = r; mismatched = false } in t) (sym request) in
-        subst (λ x. LeavesScene new (send_result mid.kept.desk answers).text false later x) (sym (c.3 ∙ ap (λ t. answers_result c.0 answers t) ahead)) g;
+        subst (λ x. LeavesScene new (send_result mid.kept.desk answers).text false later x) (sym (c.4 ∙ ap (λ t. answers_result c.0 answers t) ahead)) g;
   }
 
 -- memory is refused as a request begins
@@ -175,10 +177,11 @@ module _ (tells : Type 0) (go : Action) (mid new : PartState) (s : Store) (ticke
       → StepsFrom tells (IsFrom mid.noted) (request_result go) (scene mid s) (scene new s) (send_result mid.desk (record { ticket = ticket; body = SystemErr } ∷ [])).text false
   refused_step is last = rw is (
       sent_step tells go (scene mid s) (scene (part_with_refusal ticket mid) s) (record { ticket = ticket; body = SystemErr } ∷ []) (NoMemory mid.noted.event mid.noted.request ∷ [])
-      refl refl refl (λ later fine. from_here mid.noted later) (λ told. refl) (counted_refusal mid.noted.event mid.noted.request (counts_at s.counts mid.opened)) refl
+      refl refl refl refl (λ later fine. from_here mid.noted later) (λ told. refl) (counted_refusal mid.noted.event mid.noted.request (counts_at s.counts mid.opened)) refl
       (λ told w h later fine. (
         w,
         h.opened,
+        refl,
         refl,
         refusal_is go mid.noted w later ∙ ap (λ t. answers_result w (record { ticket = t; body = SystemErr } ∷ []) (ahead_at mid.noted later)) (ap (λ (d : DeskState). d.last) h.desk ∙ sym last),
       )))
@@ -198,8 +201,8 @@ abbrev pub Means : (File → Outcomes → Step) → Verdict → CellState → Ce
 Means act v c d = (f : File) (t : Outcomes) → StandsFor c f → is_refused t ≡ is_refusal v → CellFollows v t (act f t) d
 
 -- the request goes to the open file
-abbrev pub GoesTo : Action → (File → Outcomes → Step) → ℕ → Type 0
-GoesTo go act ticket = (w : Part) (f : File) (t : Outcomes) → w.opened ≡ Some f → w.desk.last ≡ ticket → go w t ≡ file_step_result w (act f t)
+abbrev pub GoesTo : Action → (File → Outcomes → Step) → ℕ → Settings → Type 0
+GoesTo go act ticket settings = (w : Part) (f : File) (t : Outcomes) → w.opened ≡ Some f → w.desk.last ≡ ticket → w.settings ≡ settings → go w t ≡ file_step_result w (act f t)
 
 pub ahead_stays : (v : Verdict) (t : Outcomes) → is_refusal v ≡ false → ahead_after v t ≡ t
 ahead_stays (verdict.Reply a) t e = refl
@@ -209,15 +212,16 @@ ahead_stays (verdict.NoMemory ticket) t e = absurd (cc e)
 
 -- an open file, from what is told of a step of it
 pub of_follows : (v : Verdict) (w : Part) (t : Outcomes) (step : Step) (d : CellState) → CellFollows v t step d → is_refusal v ≡ false
-    → (u : Part) × IsOpen (Some d) d.file.content u × (u.desk ≡ w.desk) × (file_step_result w step ≡ answers_result u (verdict_answers v) t)
+    → (u : Part) × IsOpen (Some d) d.file.content u × (u.desk ≡ w.desk) × (u.settings ≡ w.settings) × (file_step_result w step ≡ answers_result u (verdict_answers v) t)
 of_follows v w t step d m e = (
   record w { opened = Some step.file },
   (step.file, refl, m.stands, sym m.stands.content),
   refl,
+  refl,
   ap (λ a. answers_result (record w { opened = Some step.file }) a step.ahead) m.answers ∙ ap (λ x. answers_result (record w { opened = Some step.file }) (verdict_answers v) x) (m.ahead ∙ ahead_stays v t e),
 )
 
-module _ (tells : Type 0) (go : Action) (act : File → Outcomes → Step) (mid : PartState) (c d : CellState) (s : Store) (is_open : mid.opened ≡ Some c) (goes : GoesTo go act mid.desk.last) (same : d.file ≡ c.file) where
+module _ (tells : Type 0) (go : Action) (act : File → Outcomes → Step) (mid : PartState) (c d : CellState) (s : Store) (is_open : mid.opened ≡ Some c) (goes : GoesTo go act mid.desk.last mid.settings) (same : d.file ≡ c.file) where
   same_body : body_at s.body (Some d) ≡ body_at s.body mid.opened
   same_body = ap (λ x. x.content) same ∙ sym (ap (body_at s.body) is_open)
 
@@ -228,13 +232,13 @@ module _ (tells : Type 0) (go : Action) (act : File → Outcomes → Step) (mid 
   done_step v e means =
       rw e (
       sent_step tells go (scene mid s) (scene (part_with_sent (verdict_answers v) (with_cell d mid)) s) (verdict_answers v) []
-      refl refl (sym (append-nil mid.noted.outcomes)) (λ later fine. from_after mid.noted later fine) (λ told. same_body) (subst (λ x. IsCounted [] (counts_at s.counts mid.opened) x) same_counts (counted_none (counts_at s.counts mid.opened))) refl
+      refl refl refl (sym (append-nil mid.noted.outcomes)) (λ later fine. from_after mid.noted later fine) (λ told. same_body) (subst (λ x. IsCounted [] (counts_at s.counts mid.opened) x) same_counts (counted_none (counts_at s.counts mid.opened))) refl
       (λ told w h later fine.
       let t = ahead_at mid.noted later in
       let o = subst (λ x. IsOpen x (body_at s.body x) w) is_open h.opened in
       let m = means o.0 t o.2 (not_refused mid.noted later fine ∙ sym e) in
       let u = of_follows v w t (act o.0 t) d m e in
-      (u.0, u.1, u.2, goes_on go mid.noted w later fine ∙ goes w o.0 t o.1 (ap (λ x. x.last) h.desk) ∙ u.3)))
+      (u.0, u.1, u.2, u.3, goes_on go mid.noted w later fine ∙ goes w o.0 t o.1 (ap (λ x. x.last) h.desk) h.settings ∙ u.4)))
 
   -- a verdict on a request whose ticket is the last
   pub open_step : (v : Verdict) (asker : TicketId) → asker.number ≡ mid.desk.last → IsOf v asker c d → Means act v c d
@@ -272,11 +276,11 @@ told_plain verdict.Held asker old told new t = tt
 told_plain (verdict.Dropped ticket) asker old told new t = tt
 told_plain (verdict.NoMemory ticket) asker old told new t = tt
 
-pub told_ready : (v : Verdict) (asker : TicketId) (old : CellState) (told : SideStep) (new : CellState) (k : ℕ) → CellTells v asker old told new → IsCellReady k old → IsCellReady k new
-told_ready (verdict.Reply a) asker old told new k t r = subst (IsCellReady k) (sym t.2) r
-told_ready verdict.Held asker old told new k t r = subst (IsCellReady k) (sym t.0) r
-told_ready (verdict.Dropped ticket) asker old told new k t r = subst (IsCellReady k) (sym t.1) r
-told_ready (verdict.NoMemory ticket) asker old told new k t r = subst (IsCellReady k) (sym t.1) r
+pub told_ready : (v : Verdict) (asker : TicketId) (old : CellState) (told : SideStep) (new : CellState) (limits : Limits) (k : ℕ) → CellTells v asker old told new → IsCellReady limits k old → IsCellReady limits k new
+told_ready (verdict.Reply a) asker old told new limits k t r = subst (IsCellReady limits k) (sym t.2) r
+told_ready verdict.Held asker old told new limits k t r = subst (IsCellReady limits k) (sym t.0) r
+told_ready (verdict.Dropped ticket) asker old told new limits k t r = subst (IsCellReady limits k) (sym t.1) r
+told_ready (verdict.NoMemory ticket) asker old told new limits k t r = subst (IsCellReady limits k) (sym t.1) r
 
 -- from a step that has its text, or hasn't, to the clauses of a call
 
@@ -303,11 +307,15 @@ unfolding next_part
 reads tells conn call old new text s = s
 
 -- a request of the open file goes to it
-pub goes_write : (call : WriteCall) (q : WriteRequest) (ticket : ℕ) → q ≡ call_write_request call ticket → GoesTo (write_action call) (λ f t. write_step defaults f q t) ticket
-goes_write call q ticket is w f t opened last = ap (λ o. write_act_result o w (call_write_request call w.desk.last) t) opened ∙ ap (λ x. file_step_result w (write_step defaults f x t)) (ap (call_write_request call) last ∙ sym is)
+pub goes_write : (call : WriteCall) (q : WriteRequest) (ticket : ℕ) (settings : Settings) → q ≡ call_write_request call ticket → GoesTo (write_action call) (λ f t. write_step settings.limits f q t) ticket settings
+goes_write call q ticket settings is w f t opened last same =
+    ap (λ o. write_act_result o w (call_write_request call w.desk.last) t) opened ∙ ap (λ x. file_step_result w (write_step w.settings.limits f x t)) (ap (call_write_request call) last ∙ sym is)
+    ∙ ap (λ (x : Settings). file_step_result w (write_step x.limits f q t)) same
 
-pub goes_read : (call : ReadCall) (q : ReadRequest) (ticket : ℕ) → q ≡ call_read_request call ticket → GoesTo (read_action call) (λ f t. read_step defaults f q t) ticket
-goes_read call q ticket is w f t opened last = ap (λ o. read_act_result o w (call_read_request call w.desk.last) t) opened ∙ ap (λ x. file_step_result w (read_step defaults f x t)) (ap (call_read_request call) last ∙ sym is)
+pub goes_read : (call : ReadCall) (q : ReadRequest) (ticket : ℕ) (settings : Settings) → q ≡ call_read_request call ticket → GoesTo (read_action call) (λ f t. read_step settings.limits f q t) ticket settings
+goes_read call q ticket settings is w f t opened last same =
+    ap (λ o. read_act_result o w (call_read_request call w.desk.last) t) opened ∙ ap (λ x. file_step_result w (read_step w.settings.limits f x t)) (ap (call_read_request call) last ∙ sym is)
+    ∙ ap (λ (x : Settings). file_step_result w (read_step x.limits f q t)) same
 
 -- one that goes the same way
 pub same_way : (tells : Type 0) (go go' : Action) (mid new : Scene) (text : List ℕ) → ((w : Part) (t : Outcomes) → IsPart mid w → go w t ≡ go' w t)
@@ -335,7 +343,7 @@ cut_room tells act old new s is =
 pub last_ticket : (conn xid notes : ℕ) (ticket : TicketId) (old mid : PartState) → IsAsked conn xid notes ticket old mid → ticket.number ≡ mid.desk.last
 last_ticket conn xid notes ticket old mid a = ap (λ (x : TicketId). x.number) a.ticket_is ∙ ap (λ (d : DeskState). d.last) (sym a.desk)
 
-module _ (tells : Type 0) (conn notes : ℕ) (ticket : TicketId) (old mid : PartState) (s : Store) (c d : CellState) (v : Verdict) (told : SideStep) (is_open : mid.opened ≡ Some c) (limits : c.limits ≡ defaults) where
+module _ (tells : Type 0) (conn notes : ℕ) (ticket : TicketId) (old mid : PartState) (s : Store) (c d : CellState) (v : Verdict) (told : SideStep) (is_open : mid.opened ≡ Some c) (limits : c.limits ≡ mid.settings.limits) where
   -- a WRITE of the open file
   pub write_acts : (call : WriteCall) (r : WriteReq) → IsAsked conn call.xid notes ticket old mid → r ≡ record { offset = call.offset; stable = Unstable; bytes = call.content; ticket = ticket; moment = 0 } → CellTells v r.ticket c told d → cell.CellWrites v c r d
       → IsStep tells (WriteFile conn call) (scene old s) (scene (part_with_verdict v (with_cell d mid)) s) (send_result mid.desk (verdict_answers v)).text false
@@ -344,7 +352,7 @@ module _ (tells : Type 0) (conn notes : ℕ) (ticket : TicketId) (old mid : Part
       let q = ap admit.write_request is ∙ ap (λ x. call_write_request call x) (last_ticket conn call.xid notes ticket old mid a) in
       writes tells conn call (scene old s) (scene (part_with_verdict v (with_cell d mid)) s) (send_result mid.desk (verdict_answers v)).text
       (asked_step tells conn call.xid notes ticket old mid s a (write_action call) (scene (part_with_verdict v (with_cell d mid)) s) (send_result mid.desk (verdict_answers v)).text
-      (open_step tells (write_action call) (λ f t. write_step defaults f (admit.write_request r) t) mid c d s is_open (goes_write call (admit.write_request r) mid.desk.last q) (told_file v r.ticket c told d t)
+      (open_step tells (write_action call) (λ f t. write_step mid.settings.limits f (admit.write_request r) t) mid c d s is_open (goes_write call (admit.write_request r) mid.desk.last mid.settings q) (told_file v r.ticket c told d t)
       v r.ticket last (told_of_asker v r.ticket c told d t) (subst (λ x. (f : File) (t : Outcomes) → StandsFor c f → is_refused t ≡ is_refusal v → CellFollows v t (write_step x f (admit.write_request r) t) d) limits w)))
 
   -- a READ of it
@@ -355,7 +363,7 @@ module _ (tells : Type 0) (conn notes : ℕ) (ticket : TicketId) (old mid : Part
       let q = ap admit.read_request is ∙ ap (λ x. call_read_request call x) (last_ticket conn call.xid notes ticket old mid a) in
       reads tells conn call (scene old s) (scene (part_with_verdict v (with_cell d mid)) s) (send_result mid.desk (verdict_answers v)).text
       (asked_step tells conn call.xid notes ticket old mid s a (read_action call) (scene (part_with_verdict v (with_cell d mid)) s) (send_result mid.desk (verdict_answers v)).text
-      (open_step tells (read_action call) (λ f t. read_step defaults f (admit.read_request r) t) mid c d s is_open (goes_read call (admit.read_request r) mid.desk.last q) (told_file v r.ticket c told d t)
+      (open_step tells (read_action call) (λ f t. read_step mid.settings.limits f (admit.read_request r) t) mid c d s is_open (goes_read call (admit.read_request r) mid.desk.last mid.settings q) (told_file v r.ticket c told d t)
       v r.ticket last (told_of_asker v r.ticket c told d t) (subst (λ x. (f : File) (t : Outcomes) → StandsFor c f → is_refused t ≡ is_refusal v → CellFollows v t (read_step x f (admit.read_request r) t) d) limits w)))
 
 -- what a request of the closed file comes to
@@ -393,7 +401,7 @@ module _ (tells : Type 0) (conn xid notes : ℕ) (ticket : TicketId) (old mid : 
     next = λ told w h later fine.
         let same : w.desk.last ≡ ticket.number = ap (λ (d : DeskState). d.last) h.desk ∙ sym last in
         subst (λ x. LeavesScene (scene after s) (text_to (waiting_ticket ticket.number mid.desk) reply) false later x) (sym (goes_on (reply_action reply) mid.noted w later fine)) (record {
-          part = record { opened = open_with_desk mid.opened (body_at s.body mid.opened) w (with_answered w.desk.last w.desk) h.opened; desk = ap (λ k. with_answered k w.desk) same ∙ ap (with_answered ticket.number) h.desk };
+          part = record { opened = open_with_desk mid.opened (body_at s.body mid.opened) w (with_answered w.desk.last w.desk) h.opened; desk = ap (λ k. with_answered k w.desk) same ∙ ap (with_answered ticket.number) h.desk; settings = h.settings };
           text_is = ap (λ k. text_to (waiting_ticket k w.desk) reply) same ∙ ap (λ (d : DeskState). text_to (waiting_ticket ticket.number d) reply) h.desk;
           stop = refl;
           ahead = refl;
@@ -437,7 +445,7 @@ ends_step tells conn old new s is = rw is (record {
   speaks = speaks_close conn old.desk;
   passed = record { after = λ later fine. fine; puts = λ told. sym (append-nil (body_at s.body old.opened)); counts = counted_none (counts_at s.counts old.opened) };
   next = λ told w h later fine. record {
-    part = record { opened = open_with_desk old.opened (body_at s.body old.opened) w (with_cancelled conn w.desk) h.opened; desk = ap (with_cancelled conn) h.desk };
+    part = record { opened = open_with_desk old.opened (body_at s.body old.opened) w (with_cancelled conn w.desk) h.opened; desk = ap (with_cancelled conn) h.desk; settings = h.settings };
     text_is = refl;
     stop = refl;
     ahead = refl;
@@ -458,7 +466,7 @@ hangs_step tells conn old new s few is = rw is (record {
     counts = counted_none (counts_at s.counts old.opened);
   };
   next = λ told w h later fine. record {
-    part = record { opened = open_with_desk old.opened (body_at s.body old.opened) w (with_cancelled conn w.desk) h.opened; desk = ap (with_cancelled conn) h.desk };
+    part = record { opened = open_with_desk old.opened (body_at s.body old.opened) w (with_cancelled conn w.desk) h.opened; desk = ap (with_cancelled conn) h.desk; settings = h.settings };
     text_is = refl;
     stop = refl;
     ahead = refl;

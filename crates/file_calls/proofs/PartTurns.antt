@@ -8,6 +8,7 @@ use Rattle.gw_model.specs.File.{Answer, File}
 use Rattle.gw_model.specs.Admission.{pump_step}
 use Rattle.gw_model.specs.Views.{TraceState, next_event}
 use Rattle.gw_model.specs.Writer.{turn_step}
+use Rattle.gw_config.specs.Settings.{Settings}
 use Rattle.tickets.specs.Desk.{DeskState, waiting_ticket}
 use Rattle.tickets.specs.declared.answer.Answer.{Answer as Sendable}
 use Rattle.tickets.specs.Answers.{answer_of}
@@ -19,7 +20,7 @@ use Rattle.file_cell.specs.Files.{StandsFor, Idles, CellPumps}
 use Rattle.file_cell.specs.Steps as cell
 use Rattle.file_calls.specs.Acts.{Act, TurnFile, PumpFile}
 use Rattle.file_calls.specs.Counts.{IsCounted, file_counts, joined_counts}
-use Rattle.file_calls.specs.Part.{Part, act_result, send_result, answers_result, file_step_result, answer_line, desk_after, turn_act_result, pump_act_result, at_event, defaults, next_part}
+use Rattle.file_calls.specs.Part.{Part, act_result, send_result, answers_result, file_step_result, answer_line, desk_after, turn_act_result, pump_act_result, at_event, next_part}
 use Rattle.file_calls.specs.Outside.{PartState, Scene, Store, body_at, counts_at, scene, IsOpen, ahead_at, are_after, IsAfter, LeavesScene, IsStep, IsActCut}
 use Rattle.file_calls.specs.PartSteps.{IsFrom, IsJob, IsTurnOf, SameSettings, IsPlainAnswer, first_answers, noted_after, is_want_in}
 use Rattle.file_calls.proofs.OneReply.{speaks_answers, speaks_none}
@@ -183,7 +184,7 @@ job_idle tells c e n n' (Some a) idles none hands rest is = absurd (cc (sym none
 -- the answers of a step of the open file are sent
 module _ (tells : Type 0) (old : PartState) (c e : CellState) (s : Store) (n n' : TraceState) (answer : Option Sendable) (is_open : old.opened ≡ Some c) (begun : n ≡ record (next_event old.noted) { room = n.room }) (few : old.noted.event < 2 ^ 64 - 1) (job : IsJob tells c e answer n n') where
   abbrev pub turned : PartState
-  turned = record { opened = Some (record e { left = [] }); desk = (send_result old.desk (first_answers answer ++ e.left)).desk; noted = n' }
+  turned = record { opened = Some (record e { left = [] }); desk = (send_result old.desk (first_answers answer ++ e.left)).desk; noted = n'; settings = old.settings }
 
   pub turn_acts : IsStep tells TurnFile (scene old s) (scene turned s) (send_result old.desk (first_answers answer ++ e.left)).text false
   unfolding next_part
@@ -208,13 +209,13 @@ module _ (tells : Type 0) (old : PartState) (c e : CellState) (s : Store) (n n' 
             ∙ ap (λ (x : TraceState). file_step_result w (turn_step o.0 (ahead_at x (job.outcomes ++ later)))) (sym begun)
             ∙ ap (λ a. answers_result u a step.ahead) t.answers ∙ ap (λ x. answers_result u (first_answers answer ++ e.left) x) t.ahead in
             subst (λ x. LeavesScene (scene turned s) (send_result old.desk (first_answers answer ++ e.left)).text false later x) (sym goes)
-            (sending u (scene turned s) old.desk (first_answers answer ++ e.left) later (step.file, refl, with_left e [] step.file t.stands, sym t.stands.content) h.desk refl);
+            (sending u (scene turned s) old.desk (first_answers answer ++ e.left) later (step.file, refl, with_left e [] step.file t.stands, sym t.stands.content) h.desk refl h.settings);
       }
 
 -- a pump
-module _ (tells : Type 0) (old : PartState) (c d : CellState) (s : Store) (n : TraceState) (is_open : old.opened ≡ Some c) (limits : c.limits ≡ defaults) (same : d.file ≡ c.file) (begun : n ≡ next_event old.noted) (few : old.noted.event < 2 ^ 64 - 1) (means : CellPumps c d) where
+module _ (tells : Type 0) (old : PartState) (c d : CellState) (s : Store) (n : TraceState) (is_open : old.opened ≡ Some c) (limits : c.limits ≡ old.settings.limits) (same : d.file ≡ c.file) (begun : n ≡ next_event old.noted) (few : old.noted.event < 2 ^ 64 - 1) (means : CellPumps c d) where
   abbrev pub pumped : PartState
-  pumped = record { opened = Some (record d { left = [] }); desk = (send_result old.desk d.left).desk; noted = n }
+  pumped = record { opened = Some (record d { left = [] }); desk = (send_result old.desk d.left).desk; noted = n; settings = old.settings }
 
   pub pump_acts : IsStep tells PumpFile (scene old s) (scene pumped s) (send_result old.desk d.left).text false
   unfolding next_part
@@ -238,11 +239,11 @@ module _ (tells : Type 0) (old : PartState) (c d : CellState) (s : Store) (n : T
             let u : Part = record w { opened = Some step.file } in
             let goes : pump_act_result w.opened w (at_event (ahead_at old.noted later)) ≡ answers_result u d.left (ahead_at n later)
             = ap (λ x. pump_act_result x w (at_event (ahead_at old.noted later))) o.1
-            ∙ ap (λ (x : TraceState). file_step_result w (pump_step defaults o.0 (ahead_at x later))) (sym begun)
-            ∙ ap (λ x. file_step_result w (pump_step x o.0 t)) (sym limits)
+            ∙ ap (λ (x : TraceState). file_step_result w (pump_step w.settings.limits o.0 (ahead_at x later))) (sym begun)
+            ∙ ap (λ x. file_step_result w (pump_step x o.0 t)) (ap (λ (x : Settings). x.limits) h.settings ∙ sym limits)
             ∙ ap (λ a. answers_result u a step.ahead) r.answers ∙ ap (λ x. answers_result u d.left x) r.ahead in
             subst (λ x. LeavesScene (scene pumped s) (send_result old.desk d.left).text false later x) (sym goes)
-            (sending u (scene pumped s) old.desk d.left later (step.file, refl, with_left d [] step.file r.stands, sym r.stands.content) h.desk refl);
+            (sending u (scene pumped s) old.desk d.left later (step.file, refl, with_left d [] step.file r.stands, sym r.stands.content) h.desk refl h.settings);
       }
 
 -- no file is open
@@ -264,7 +265,7 @@ module _ (tells : Type 0) (old : PartState) (s : Store) (n : TraceState) (closed
     next = λ told w h later fine.
         let shut = (subst (λ x. IsOpen x (body_at s.body x) w) closed h.opened).0 in
         subst (λ x. LeavesScene (scene idle s) [] false later x) (sym (goes w (ahead_at old.noted later) shut ∙ ap (λ (x : TraceState). act_result w [] (ahead_at x later)) (sym begun)))
-        (record { part = record { opened = h.opened; desk = h.desk }; text_is = refl; stop = refl; ahead = refl });
+        (record { part = record { opened = h.opened; desk = h.desk; settings = h.settings }; text_is = refl; stop = refl; ahead = refl });
   })
 
   pub closed_turn : (text : List ℕ) → text ≡ [] → IsStep tells TurnFile (scene old s) (scene idle s) text false

@@ -1,6 +1,7 @@
 -- What the calls on the store come to by which a file is opened, and read while it is closed.
 use Rattle.std.specs.Prelude.{◌≡◌, ℕ, ◌+◌, ◌⊎◌, nat_le, List, [], ◌∷◌, length, map, None}
 use Rattle.gw_model.specs.Ahead.{CallResult, Good, Bad, outcome_of}
+use Rattle.gw_model.specs.declared.limits.Limits.{Limits}
 use Rattle.gw_model.specs.Sides.{opened_side}
 use Rattle.gw_model.specs.Views.{TraceState}
 use Rattle.gw_model.specs.Writer.{range_of}
@@ -11,13 +12,12 @@ use Rattle.writeback.specs.Steps.{with_calls}
 use Rattle.file_cell.specs.State.{CellState}
 use Rattle.file_calls.specs.Counts.{IsCounted}
 use Rattle.file_calls.specs.Outside.{Store}
-use Rattle.file_calls.specs.Part.{defaults}
 use Rattle.file_calls.specs.declared.opening.Failure.{Failure}
 use Rattle.file_calls.specs.declared.opening.Failure.TheVariants as failure
 use Rattle.file_calls.specs.declared.opening.StoredRange.{StoredRange}
 
--- A cell that was just opened has all bytes of the body, and its file is out.
-pub record IsOpened (tells : Type 0) (file : ℕ) (c : CellState) (before after : Store) (noted noted' : TraceState) : Type 0 where
+-- A cell that was just opened is held to these limits and has all bytes of the body, and its file is out.
+pub record IsOpened (tells : Type 0) (limits : Limits) (file : ℕ) (c : CellState) (before after : Store) (noted noted' : TraceState) : Type 0 where
   pub out : tells → after.body ≡ Lent c.file.mark
   pub content : tells → c.file.content ≡ bytes_of before.body
   pub faults : c.file.faults ≡ 0
@@ -26,7 +26,7 @@ pub record IsOpened (tells : Type 0) (file : ℕ) (c : CellState) (before after 
   pub base : c.base ≡ length c.file.content
   pub side : c.side ≡ opened_side (length c.file.content) None 0
   pub writer : c.writer ≡ fresh_writer (length c.file.content)
-  pub limits : c.limits ≡ defaults
+  pub limits_are : c.limits ≡ limits
   pub left : c.left ≡ []
   pub noted_is : noted' ≡ with_calls (Good ∷ []) noted
   pub counts : IsCounted (map outcome_of (Good ∷ [])) before.counts after.counts

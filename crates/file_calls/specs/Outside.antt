@@ -8,6 +8,7 @@ use Rattle.gw_model.specs.File.{File, content}
 use Rattle.gw_model.specs.Views.{TraceState, empty_trace}
 use Rattle.gw_outside.specs.Causes.{Carries}
 use Rattle.gw_outside.specs.Tally.{joined_tally}
+use Rattle.gw_config.specs.Settings.{Settings}
 use Rattle.tickets.specs.Desk.{DeskState, new_desk}
 use Rattle.append_store.specs.declared.store.Cluster.{Ghosts}
 use Rattle.append_store.specs.State.{ObjectState, Lent, IsThere, IsAway, bytes_of}
@@ -42,13 +43,14 @@ OthersStay g tells file c c' = tells → (q : ObjectId) → q ≢ body_id file �
 
 -- what the program keeps
 
--- the requests that wait for an answer, and the outcomes that were noted
+-- the requests that wait for an answer, the outcomes that were noted, and the settings
 pub record TrackerState : Type 0 where
   pub desk : DeskState
   pub noted : TraceState
+  pub settings : Settings
 
-abbrev pub new_tracker : TrackerState
-new_tracker = record { desk = new_desk; noted = empty_trace }
+abbrev pub new_tracker : Settings → TrackerState
+new_tracker settings = record { desk = new_desk; noted = empty_trace; settings = settings }
 
 -- its outcomes are forgotten
 abbrev pub without_outcomes : TrackerState → ℕ → TrackerState
@@ -59,9 +61,10 @@ pub record PartState : Type 0 where
   pub opened : Option CellState
   pub desk : DeskState
   pub noted : TraceState
+  pub settings : Settings
 
 abbrev pub part_state : Option CellState → TrackerState → PartState
-part_state opened tracker = record { opened = opened; desk = tracker.desk; noted = tracker.noted }
+part_state opened tracker = record { opened = opened; desk = tracker.desk; noted = tracker.noted; settings = tracker.settings }
 
 -- The same with what is seen outside: the bytes of the body, and what the store counts, with what the file that is out
 -- counts.
@@ -112,6 +115,7 @@ IsOpen (Some c) body w = (f : File) × (w.opened ≡ Some f) × StandsFor c f ×
 pub record IsPart (s : Scene) (w : Part) : Type 0 where
   pub opened : IsOpen s.kept.opened s.body w
   pub desk : w.desk ≡ s.kept.desk
+  pub settings : w.settings ≡ s.kept.settings
 
 -- the outcomes that are ahead of the event and the request that stand now
 abbrev pub ahead_at : TraceState → List Outcome → Outcomes

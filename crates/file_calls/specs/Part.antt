@@ -1,6 +1,5 @@
 -- The sequential definition, cut to one file's part: what each act leaves of it, and what it writes.
 use Rattle.std.specs.Prelude.{ℕ, ◌+◌, ◌^◌, min, nat_le, Bool, true, false, List, [], ◌∷◌, ◌++◌, length, Option, Some, None}
-use Rattle.gw_model.specs.declared.limits.Limits.{Limits}
 use Rattle.gw_model.specs.declared.Stable.TheVariants.{Unstable}
 use Rattle.gw_model.specs.Ahead.{Outcomes, CallResult, Good, Bad, next_call, is_refused, past_refusal}
 use Rattle.gw_model.specs.File.{Body, NotWritten, Gave, NotGiven, SystemErr, Silence, Answer, File, Step, opened_file, content}
@@ -8,19 +7,21 @@ use Rattle.gw_model.specs.Admission.{write_step, WriteRequest, read_step, ReadRe
 use Rattle.gw_model.specs.Statuses.{io}
 use Rattle.gw_model.specs.Views.{raised}
 use Rattle.gw_model.specs.Writer.{turn_step, range_of}
+use Rattle.gw_config.specs.Settings.{Settings}
 use Rattle.tickets.specs.Desk.{TicketId, DeskState, waiting_ticket, with_issued, with_dropped, with_answered, with_cancelled}
 use Rattle.file_calls.specs.Replies.{reply_bytes, reply_line, closed_line}
 use Rattle.file_calls.specs.declared.call.ReadCall.{ReadCall}
 use Rattle.file_calls.specs.declared.call.WriteCall.{WriteCall}
 use Rattle.file_calls.specs.Acts.{Act, CreateFile, BeginEvent, Reply, WriteFile, ReadFile, CloseConnection, HangUp, TurnFile, PumpFile}
 
--- One file's part of the world, with the tickets, which all files share.
+-- One file's part of the world, with the tickets and the settings, which all files share.
 pub record Part : Type 0 where
   -- what the file's body holds while the file has no context
   pub body : List ℕ
   pub opened : Option File
   -- the tickets issued, and those that wait for an answer
   pub desk : DeskState
+  pub settings : Settings
 
 -- what the body holds
 abbrev pub body_in : List ℕ → Option File → List ℕ
@@ -71,10 +72,6 @@ answer_result w ticket body t = answers_result w (record { ticket = ticket; body
 abbrev pub file_step_result : Part → Step → PartResult
 file_step_result w s = answers_result (record w { opened = Some s.file }) s.answers s.ahead
 
--- The defaults of the settings.
-abbrev pub defaults : Limits
-defaults = record { commits = 1024; history = 131072; line_slots = 8; memory_cap = 8388608; memory_mark = 1048576; pending_max = 65536; ready_cap = 8388608; spill_size = 67108864; timeout_ms = 600000 }
-
 -- a request
 
 -- the next request of the event begins, and the next event; both are numbered from 1, up to the greatest u64
@@ -123,11 +120,11 @@ call_write_request call ticket = record { offset = call.offset; bytes = call.con
 abbrev pub first_write_result : CallResult → Bool → Part → WriteRequest → Outcomes → PartResult
 first_write_result (Bad kept) refusal w q t = answer_result w q.ticket (NotWritten io) t
 first_write_result Good true w q t = refusal_result w q.ticket t
-first_write_result Good false w q t = file_step_result w (write_step defaults (opened_file w.body None 0) q t)
+first_write_result Good false w q t = file_step_result w (write_step w.settings.limits (opened_file w.body None 0) q t)
 
 -- the first write opens the file
 abbrev pub write_act_result : Option File → Part → WriteRequest → Outcomes → PartResult
-write_act_result (Some f) w q t = file_step_result w (write_step defaults f q t)
+write_act_result (Some f) w q t = file_step_result w (write_step w.settings.limits f q t)
 write_act_result None w q t = let c = next_call t in first_write_result c.called (is_refused c.ahead) w q c.ahead
 
 -- READ
@@ -147,7 +144,7 @@ stored_read_result Good false w q t = answer_result w q.ticket (stored_range q.o
 
 -- one that finds the file closed reads what is stored
 abbrev pub read_act_result : Option File → Part → ReadRequest → Outcomes → PartResult
-read_act_result (Some f) w q t = file_step_result w (read_step defaults f q t)
+read_act_result (Some f) w q t = file_step_result w (read_step w.settings.limits f q t)
 read_act_result None w q t = let c = next_call t in stored_read_result c.called (is_refused c.ahead) w q c.ahead
 
 -- steps of the file
@@ -164,7 +161,7 @@ turn_act_result (Some f) w t = file_step_result w (turn_step f t)
 
 abbrev pub pump_act_result : Option File → Part → Outcomes → PartResult
 pump_act_result None w t = act_result w [] t
-pump_act_result (Some f) w t = file_step_result w (pump_step defaults f t)
+pump_act_result (Some f) w t = file_step_result w (pump_step w.settings.limits f t)
 
 -- a connection ends: none of its requests is answered any more
 abbrev pub closing_result : Part → ℕ → Outcomes → PartResult

@@ -2,6 +2,7 @@
 use Rattle.std.specs.Prelude.{◌≡◌, ℕ, ◌-◌, ◌^◌, ◌<◌, ◌≤◌, ◌⊎◌, Bool, true, false, List, [], ◌∷◌, ◌++◌, Option, None, Some, Result, Ok, Err}
 use Rattle.std.specs.Io.KnownBytes.{Appends}
 use Rattle.gw_outside.specs.Writing.{AppendsPrefix}
+use Rattle.gw_model.specs.declared.limits.Limits.{Limits}
 use Rattle.gw_model.specs.Ahead.{Outcome, NoMemory}
 use Rattle.gw_model.specs.File.{Answer, File, Step, SystemErr}
 use Rattle.gw_model.specs.Writer.{turn_step}
@@ -18,18 +19,19 @@ use Rattle.admit.specs.declared.request.Verdict.{Verdict}
 use Rattle.admit.specs.declared.request.Verdict.TheVariants as verdict
 use Rattle.file_cell.specs.State.{CellState}
 use Rattle.file_cell.specs.History.{history_text}
-use Rattle.file_calls.specs.Part.{defaults, send_result}
+use Rattle.file_calls.specs.Part.{send_result}
 use Rattle.file_calls.specs.Outside.{TrackerState, PartState, Scene, Action, StepsFrom, IsAfter, ahead_at}
 
--- a context of this file, with no answer left
-abbrev pub IsCellReady : ℕ → CellState → Type 0
-IsCellReady file c = (c.left ≡ []) × (c.limits ≡ defaults) × (c.id.0 ≡ file)
+-- a context of this file that is held to these limits, with no answer left
+abbrev pub IsCellReady : Limits → ℕ → CellState → Type 0
+IsCellReady limits file c = (c.left ≡ []) × (c.limits ≡ limits) × (c.id.0 ≡ file)
 
-abbrev pub IsReadyIn : ℕ → Option CellState → Type 0
-IsReadyIn file None = Unit {0}
-IsReadyIn file (Some c) = IsCellReady file c
+abbrev pub IsReadyIn : Limits → ℕ → Option CellState → Type 0
+IsReadyIn limits file None = Unit {0}
+IsReadyIn limits file (Some c) = IsCellReady limits file c
 
--- A request has the next number of its event, and the next ticket; there is room for the notes that it may make.
+-- A request has the next number of its event, and the next ticket; there is room for the notes that it may make. The settings
+-- stay.
 pub record IsAsked (conn xid notes : ℕ) (ticket : TicketId) (old new : PartState) : Type 0 where
   pub opened : new.opened ≡ old.opened
   pub desk : new.desk ≡ with_issued conn xid old.desk
@@ -37,6 +39,7 @@ pub record IsAsked (conn xid notes : ℕ) (ticket : TicketId) (old new : PartSta
   pub ticket_is : ticket ≡ next_ticket conn xid old.desk
   pub room : notes ≤ new.noted.room
   pub counted : old.noted.request < 2 ^ 64 - 1
+  pub settings : new.settings ≡ old.settings
 
 -- only the room may have grown
 abbrev pub SameButRoom : PartState → PartState → Type 0
@@ -84,9 +87,9 @@ SameFile None None = Unit {0}
 SameFile (Some c) (Some d) = d.file.mark ≡ c.file.mark
 SameFile _ _ = ⊥
 
--- the event and the request that stand now are the same
+-- the event and the request that stand now are the same, and so are the settings
 abbrev pub SameNumbers : TrackerState → TrackerState → Type 0
-SameNumbers old new = (new.noted.event ≡ old.noted.event) × (new.noted.request ≡ old.noted.request)
+SameNumbers old new = (new.noted.event ≡ old.noted.event) × (new.noted.request ≡ old.noted.request) × (new.settings ≡ old.settings)
 
 -- these outcomes don't begin with a refusal of memory for an event and request before this
 abbrev pub are_from : ℕ → ℕ → List Outcome → Type 0

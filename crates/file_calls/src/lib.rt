@@ -4,7 +4,6 @@
 mod answers;
 mod call;
 mod laws;
-mod limits;
 mod opening;
 mod part;
 mod reply;

@@ -1,17 +1,19 @@
 // Calls on the store for a file: its body is taken, and read where nobody has taken it.
-ghost use Rattle.std.specs.Prelude.{◌≡◌, ◌<◌, min, IfErr, IfOk};
+ghost use Rattle.std.specs.Prelude.{◌≡◌, ◌≤◌, ◌<◌, ◌^◌, min, IfErr, IfOk};
 ghost use Rattle.gw_model.specs.declared.object.ObjectId.{ObjectId};
 ghost use Rattle.append_store.specs.State.{IsThere};
 ghost use Rattle.file_calls.specs.Opening.{IsOpened, IsStoredRange, FailsClosed};
 ghost use Rattle.file_calls.specs.Outside.{body_id, store_view, OthersStay};
 
-use crate::limits::{LINE_SLOTS, default_limits};
 use append_store::{AppendFile, Cluster};
 use file_cell::FileCell;
-use gw_model::{FileId, ObjectId, Outcome, Trace};
+use gw_model::{FileId, Limits, ObjectId, Outcome, Trace};
 use job_line::open_line;
 use range_map::SortedVecMap;
 use std::alloc::Global;
+
+/// The slots of a file's line, which its limits may leave unused.
+const LINE_SLOTS: usize = 8;
 
 /// The most bytes that a READ gives.
 const MOST: u32 = 1_048_576;
@@ -25,17 +27,20 @@ pub enum Failure {
     Memory,
 }
 
-/// Takes the body from the store and opens the file, on a line of its own. The call is noted. Takes memory; where that is
-/// refused the store has the body.
+/// Takes the body from the store and opens the file, held to these limits, on a line of its own. The call is noted. Takes
+/// memory; where that is refused the store has the body.
 pub fn open_file<C: Cluster>(
     alloc: Global,
     file: u64,
+    limits: Limits,
     cluster: &mut C,
     trace: &mut Trace,
 ) -> Result<FileCell<C::File, SortedVecMap>, Failure>
     requires there { C.File.tells → IsThere (C.at cluster.old (body_id file)) }
     requires noted { 0 < trace.old.room }
-    ensures opened { IfOk result (λ c. IsOpened C.File.tells file c
+    requires slots { limits.line_slots ≤ 8 }
+    requires history { limits.history < 2 ^ 32 }
+    ensures opened { IfOk result (λ c. IsOpened C.File.tells limits file c
         (store_view file C.Cluster cluster.old) (store_view file C.Cluster cluster.new) trace.old trace.new) }
     ensures failed { IfErr result (λ f. FailsClosed C.File.tells f
         (store_view file C.Cluster cluster.old) (store_view file C.Cluster cluster.new) trace.old trace.new) }
@@ -52,7 +57,7 @@ pub fn open_file<C: Cluster>(
     trace.note(Outcome::Done);
     // The length bounds the body's.
     let _ = body.len();
-    match FileCell::open(alloc, FileId(file), body, ends, default_limits(), None, 0) {
+    match FileCell::open(alloc, FileId(file), body, ends, limits, None, 0) {
         Ok(cell) => Ok(cell),
         Err((body, _)) => {
             cluster.give_file(ObjectId::Body { file, version: 1 }, body);

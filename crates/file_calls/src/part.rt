@@ -1,13 +1,14 @@
 // One file, open or closed, and the requests that wait: what each act makes of them.
 ghost use Rattle.std.specs.Prelude.{◌≡◌, ◌≢◌, ◌≤◌, ◌<◌, ◌+◌, ◌-◌, ◌^◌, ℕ, [], IfOk, OnOk, OnErr, length, string_bytes, Option, None, Some};
 ghost use Rattle.gw_outside.specs.Causes.{Rose};
+ghost use Rattle.gw_model.specs.declared.limits.Limits.{Limits};
 ghost use Rattle.gw_model.specs.declared.object.ObjectId.{ObjectId};
 ghost use Rattle.append_store.specs.State.{Lent, Missing, IsAway, bytes_of};
 ghost use Rattle.admit.specs.Calls.{write_request};
 ghost use Rattle.file_cell.specs.State.{CellState};
 ghost use Rattle.file_calls.specs.Counts.{file_counts};
 ghost use Rattle.file_calls.specs.Acts.{CreateFile, WriteFile, ReadFile, TurnFile, PumpFile};
-ghost use Rattle.file_calls.specs.Part.{defaults, read_action, request_result, send_result, write_act_result};
+ghost use Rattle.file_calls.specs.Part.{read_action, request_result, send_result, write_act_result};
 ghost use Rattle.file_calls.specs.Outside.{Store, body_id, part_state, scene, scene_of, store_counts, CarriesCounts, OthersStay};
 ghost use Rattle.file_calls.specs.Outside.{IsActCut, IsActed, IsBodyHome, IsBodySafe, IsText, StepsTo};
 ghost use Rattle.file_calls.specs.PartSteps.{IsCellReady, IsClosedBy, IsJob, IsPlainAnswer, IsReadyIn, SameNumbers, SameSettings, Tries, first_answers, is_want_in};
@@ -109,6 +110,7 @@ pub fn turn_cell<F: AppendFile, M: PendingMap>(
     ensures none_left { cell.new.left ≡ [] }
     ensures same { SameSettings cell.old cell.new }
     ensures event { tracker.new.noted.event ≡ tracker.old.noted.event + 1 }
+    ensures settings { tracker.new.settings ≡ tracker.old.settings }
 {
     tracker.trace.begin_event();
     if tracker.trace.reserve(NOTES).is_err() {
@@ -125,7 +127,7 @@ pub fn pump_cell<F: AppendFile, M: PendingMap>(
     tracker: &mut RequestTracker,
 ) -> Result<String, AllocError>
     requires none_left { cell.old.left ≡ [] }
-    requires limits { cell.old.limits ≡ defaults }
+    requires limits { cell.old.limits ≡ tracker.old.settings.limits }
     requires few { tracker.old.noted.event < 2 ^ 64 - 1 }
     ensures ok { (s : Store) → IfOk result (StepsTo F.tells PumpFile
         (scene (part_state (Some cell.old) tracker.old) s) (scene (part_state (Some cell.new) tracker.new) s)) }
@@ -134,6 +136,7 @@ pub fn pump_cell<F: AppendFile, M: PendingMap>(
     ensures none_left { cell.new.left ≡ [] }
     ensures same { SameSettings cell.old cell.new }
     ensures event { tracker.new.noted.event ≡ tracker.old.noted.event + 1 }
+    ensures settings { tracker.new.settings ≡ tracker.old.settings }
 {
     tracker.trace.begin_event();
     cell.pump_step();
@@ -153,6 +156,7 @@ pub fn idle_event(tracker: &mut RequestTracker) -> String
     ensures pump { (s : Store) → StepsTo (Unit {0}) PumpFile
         (scene (part_state None tracker.old) s) (scene (part_state None tracker.new) s) result }
     ensures event { tracker.new.noted.event ≡ tracker.old.noted.event + 1 }
+    ensures settings { tracker.new.settings ≡ tracker.old.settings }
 {
     tracker.trace.begin_event();
     String::new(tracker.alloc)
@@ -165,16 +169,17 @@ pub fn write_cell<F: AppendFile, M: PendingMap>(
     cell: &mut FileCell<F, M>,
     tracker: &mut RequestTracker,
 ) -> Result<String, AllocError>
-    requires limits { cell.old.limits ≡ defaults }
+    requires limits { cell.old.limits ≡ tracker.old.settings.limits }
     requires few { length call.content ≤ 1048576 }
     requires below { call.offset + length call.content < 2 ^ 63 }
     ensures ok { (s : Store) → IfOk result (StepsTo F.tells (WriteFile conn call)
         (scene (part_state (Some cell.old) tracker.old) s) (scene (part_state (Some cell.new) tracker.new) s)) }
     ensures err { (s : Store) → OnErr result (IsActCut F.tells (WriteFile conn call)
         (scene (part_state (Some cell.old) tracker.old) s) (scene (part_state (Some cell.new) tracker.new) s)) }
-    ensures ready { (k : ℕ) → IsCellReady k cell.old → IsCellReady k cell.new }
+    ensures ready { (limits : Limits) (k : ℕ) → IsCellReady limits k cell.old → IsCellReady limits k cell.new }
     ensures same { cell.new.file ≡ cell.old.file }
     ensures event { tracker.new.noted.event ≡ tracker.old.noted.event }
+    ensures settings { tracker.new.settings ≡ tracker.old.settings }
 {
     let ticket = tracker.begin_request(conn, call.xid)?;
     let verdict = cell.write(WriteReq {
@@ -194,14 +199,15 @@ pub fn read_cell<F: AppendFile, M: PendingMap>(
     cell: &mut FileCell<F, M>,
     tracker: &mut RequestTracker,
 ) -> Result<String, AllocError>
-    requires limits { cell.old.limits ≡ defaults }
+    requires limits { cell.old.limits ≡ tracker.old.settings.limits }
     ensures ok { (s : Store) → IfOk result (StepsTo F.tells (ReadFile conn call)
         (scene (part_state (Some cell.old) tracker.old) s) (scene (part_state (Some cell.new) tracker.new) s)) }
     ensures err { (s : Store) → OnErr result (IsActCut F.tells (ReadFile conn call)
         (scene (part_state (Some cell.old) tracker.old) s) (scene (part_state (Some cell.new) tracker.new) s)) }
-    ensures ready { (k : ℕ) → IsCellReady k cell.old → IsCellReady k cell.new }
+    ensures ready { (limits : Limits) (k : ℕ) → IsCellReady limits k cell.old → IsCellReady limits k cell.new }
     ensures same { cell.new.file ≡ cell.old.file }
     ensures event { tracker.new.noted.event ≡ tracker.old.noted.event }
+    ensures settings { tracker.new.settings ≡ tracker.old.settings }
 {
     let ticket = tracker.begin_request(conn, call.xid)?;
     let verdict = cell.read(ReadReq {
@@ -224,6 +230,7 @@ pub fn refuse_write(
     ensures err { (o : Option CellState) (s : Store) → OnErr result (IsActCut (Unit {0}) (WriteFile conn call)
         (scene (part_state o tracker.old) s) (scene (part_state o tracker.new) s)) }
     ensures event { tracker.new.noted.event ≡ tracker.old.noted.event }
+    ensures settings { tracker.new.settings ≡ tracker.old.settings }
 {
     tracker.refuse_request(conn, call.xid)
 }
@@ -253,13 +260,14 @@ fn open_and_write<C: Cluster>(
     ensures tries { Tries C.File.tells (request_result (λ w t. write_act_result w.opened w (write_request request) t))
         (scene_of file C.Cluster None tracker.old cluster.old) (scene_of file C.Cluster result.cell tracker.new cluster.new)
         (λ x. IfOk result.text (λ t. string_bytes t ≡ x)) }
-    ensures ready { IsReadyIn file result.cell }
+    ensures ready { IsReadyIn tracker.old.settings.limits file result.cell }
     ensures home_after { IsBodyHome C.File.tells (C.at cluster.new (body_id file)) result.cell }
     ensures others { OthersStay C.Cluster C.File.tells file cluster.old cluster.new }
     ensures losses { C.File.tells → C.losses cluster.new (body_id file) ≡ C.losses cluster.old (body_id file) }
     ensures numbers { SameNumbers tracker.old tracker.new }
 {
-    let mut cell = match open_file(tracker.alloc, file, cluster, &mut tracker.trace) {
+    let limits = tracker.config.limits;
+    let mut cell = match open_file(tracker.alloc, file, limits, cluster, &mut tracker.trace) {
         Ok(cell) => cell,
         Err(Failure::Store) => return FirstWrite {
             cell: None,
@@ -303,11 +311,12 @@ pub fn first_write<C: Cluster>(
         (scene_of file C.Cluster None tracker.old cluster.old) (scene_of file C.Cluster result.cell tracker.new cluster.new)) }
     ensures err { OnErr result.text (IsActCut C.File.tells (WriteFile conn call)
         (scene_of file C.Cluster None tracker.old cluster.old) (scene_of file C.Cluster result.cell tracker.new cluster.new)) }
-    ensures ready { IsReadyIn file result.cell }
+    ensures ready { IsReadyIn tracker.old.settings.limits file result.cell }
     ensures home_after { IsBodyHome C.File.tells (C.at cluster.new (body_id file)) result.cell }
     ensures others { OthersStay C.Cluster C.File.tells file cluster.old cluster.new }
     ensures losses { C.File.tells → C.losses cluster.new (body_id file) ≡ C.losses cluster.old (body_id file) }
     ensures event { tracker.new.noted.event ≡ tracker.old.noted.event }
+    ensures settings { tracker.new.settings ≡ tracker.old.settings }
 {
     match tracker.begin_request(conn, call.xid) {
         Ok(ticket) => {
@@ -377,6 +386,7 @@ pub fn read_closed<C: Cluster>(
     ensures same { C.File.tells → (q : ObjectId) → C.at cluster.new q ≡ C.at cluster.old q }
     ensures losses { C.File.tells → (q : ObjectId) → C.losses cluster.new q ≡ C.losses cluster.old q }
     ensures event { tracker.new.noted.event ≡ tracker.old.noted.event }
+    ensures settings { tracker.new.settings ≡ tracker.old.settings }
 {
     let ticket = tracker.begin_request(conn, call.xid)?;
     read_stored(file, call, ticket, tracker, cluster)
@@ -397,6 +407,7 @@ pub fn create_body<C: Cluster>(
     ensures losses { C.File.tells → C.at cluster.old (body_id file) ≢ Missing
         → C.losses cluster.new (body_id file) ≡ C.losses cluster.old (body_id file) }
     ensures event { tracker.new.noted.event ≡ tracker.old.noted.event }
+    ensures settings { tracker.new.settings ≡ tracker.old.settings }
     ensures later { C.count cluster.old ≤ C.count cluster.new }
     ensures cause { result ≡ StepResult.StoreFault → Rose (C.count cluster.old) (C.count cluster.new) }
 {

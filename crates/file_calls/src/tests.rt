@@ -1,5 +1,7 @@
-ghost use Rattle.std.specs.Prelude.{◌≡◌, ◌≤◌, ◌<◌, ◌+◌, length, IfOk, OnOk, None};
+ghost use Rattle.std.specs.Prelude.{◌≡◌, ◌≤◌, ◌<◌, ◌+◌, [], length, IfOk, OnOk, None};
 ghost use Rattle.append_store.specs.State.{Lent, Missing};
+ghost use Rattle.gw_config.specs.Ranges.{AreInRange};
+ghost use Rattle.gw_config.specs.Seen.{settings_in};
 ghost use Rattle.file_calls.specs.Outside.{IsBodyHome};
 ghost use Rattle.file_calls.specs.PartSteps.{IsCellReady};
 
@@ -7,6 +9,7 @@ use super::*;
 use append_store::{AppendFile, Cluster, MemCluster};
 use bytes::Bytes;
 use file_cell::FileCell;
+use gw_config::Config;
 use gw_model::ObjectId;
 use gw_outside::MemSink;
 use range_map::SortedVecMap;
@@ -25,11 +28,19 @@ const WROTE: &str =
 const GAVE: &str =
     "reply 1 8000003400000002000000010000000000000000000000000000000000000000000000000000000500000001000000056162636465000000\n";
 
+// The settings where nothing is set.
+fn unset(alloc: Global) -> Result<Config, Fail>
+    ensures in_range { IfOk result (λ c. AreInRange (settings_in c)) }
+{
+    Ok(Config::from_toml(alloc, "").map_err(|_| "settings")?)
+}
+
 // Creates the body in a store where it isn't.
 fn created<C: Cluster>(tracker: &mut RequestTracker, cluster: &mut C) -> Result<(), Fail>
     requires missing { C.File.tells → C.at cluster.old BODY ≡ Missing }
     ensures home { OnOk result (IsBodyHome C.File.tells (C.at cluster.new BODY) None) }
     ensures event { tracker.new.noted.event ≡ tracker.old.noted.event }
+    ensures settings { tracker.new.settings ≡ tracker.old.settings }
 {
     match create_body(4, tracker, cluster) {
         StepResult::Text(_) => Ok(()),
@@ -45,9 +56,10 @@ fn opened<C: Cluster>(
 ) -> Result<FileCell<C::File, SortedVecMap>, Fail>
     requires few { length bytes.now ≤ 100 }
     requires home { IsBodyHome C.File.tells (C.at cluster.old BODY) None }
-    ensures ready { IfOk result (λ c. IsCellReady 4 c) }
+    ensures ready { IfOk result (λ c. IsCellReady tracker.new.settings.limits 4 c) }
     ensures out { IfOk result (λ c. C.File.tells → C.at cluster.new BODY ≡ Lent c.file.mark) }
     ensures event { tracker.new.noted.event ≡ tracker.old.noted.event }
+    ensures settings { tracker.new.settings ≡ tracker.old.settings }
 {
     let call = WriteCall {
         xid: 1,
@@ -68,11 +80,12 @@ fn turned<F: AppendFile>(
     cell: &mut FileCell<F, SortedVecMap>,
     tracker: &mut RequestTracker,
 ) -> Result<String, Fail>
-    requires ready { IsCellReady 4 cell.old }
+    requires ready { IsCellReady tracker.old.settings.limits 4 cell.old }
     requires few { tracker.old.noted.event < 100 }
-    ensures ready { IsCellReady 4 cell.new }
+    ensures ready { IsCellReady tracker.new.settings.limits 4 cell.new }
     ensures same { cell.new.file.mark ≡ cell.old.file.mark }
     ensures event { tracker.new.noted.event ≡ tracker.old.noted.event + 1 }
+    ensures settings { tracker.new.settings ≡ tracker.old.settings }
 {
     Ok(turn_cell(cell, tracker).map_err(|_| "memory")?)
 }
@@ -81,9 +94,9 @@ fn pumped<F: AppendFile>(
     cell: &mut FileCell<F, SortedVecMap>,
     tracker: &mut RequestTracker,
 ) -> Result<String, Fail>
-    requires ready { IsCellReady 4 cell.old }
+    requires ready { IsCellReady tracker.old.settings.limits 4 cell.old }
     requires few { tracker.old.noted.event < 100 }
-    ensures ready { IsCellReady 4 cell.new }
+    ensures ready { IsCellReady tracker.new.settings.limits 4 cell.new }
     ensures same { cell.new.file.mark ≡ cell.old.file.mark }
 {
     Ok(pump_cell(cell, tracker).map_err(|_| "memory")?)
@@ -93,10 +106,11 @@ fn read<F: AppendFile>(
     cell: &mut FileCell<F, SortedVecMap>,
     tracker: &mut RequestTracker,
 ) -> Result<String, Fail>
-    requires ready { IsCellReady 4 cell.old }
-    ensures ready { IsCellReady 4 cell.new }
+    requires ready { IsCellReady tracker.old.settings.limits 4 cell.old }
+    ensures ready { IsCellReady tracker.new.settings.limits 4 cell.new }
     ensures same { cell.new.file.mark ≡ cell.old.file.mark }
     ensures event { tracker.new.noted.event ≡ tracker.old.noted.event }
+    ensures settings { tracker.new.settings ≡ tracker.old.settings }
 {
     let call = ReadCall {
         xid: 2,
@@ -111,9 +125,9 @@ fn four_texts<F: AppendFile>(
     cell: &mut FileCell<F, SortedVecMap>,
     tracker: &mut RequestTracker,
 ) -> Result<[String; 4], Fail>
-    requires ready { IsCellReady 4 cell.old }
+    requires ready { IsCellReady tracker.old.settings.limits 4 cell.old }
     requires few { tracker.old.noted.event < 90 }
-    ensures ready { IsCellReady 4 cell.new }
+    ensures ready { IsCellReady tracker.new.settings.limits 4 cell.new }
     ensures same { cell.new.file.mark ≡ cell.old.file.mark }
 {
     let wrote = turned(cell, tracker)?;
@@ -129,7 +143,8 @@ fn ends_with<C: Cluster>(
     cluster: &mut C,
     text: &str,
 ) -> bool
-    requires ready { IsCellReady 4 cell }
+    requires none_left { cell.left ≡ [] }
+    requires id { cell.id.0 ≡ 4 }
     requires out { C.File.tells → C.at cluster.old BODY ≡ Lent cell.file.mark }
 {
     let mut sink = MemSink::new(alloc, Vec::new(alloc));
@@ -139,7 +154,7 @@ fn ends_with<C: Cluster>(
 #[test]
 fn a_first_write_is_put_and_read(rt: HostRuntime) -> Result<(), Fail> {
     let alloc = rt.alloc();
-    let mut tracker = RequestTracker::new(alloc);
+    let mut tracker = RequestTracker::new(alloc, unset(alloc)?);
     let mut cluster = MemCluster::new(alloc, Vec::new(alloc));
     created(&mut tracker, &mut cluster)?;
     let mut cell = opened(&mut tracker, &mut cluster, b"abcde")?;

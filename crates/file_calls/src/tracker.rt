@@ -1,6 +1,8 @@
-// The requests that wait for an answer, and the outcomes that were noted.
+// The requests that wait for an answer, the outcomes that were noted, and the settings.
 ghost use Rattle.std.specs.Prelude.{◌≡◌, ◌<◌, ◌+◌, ◌-◌, ◌^◌, ◌∷◌, [], IfOk, OnErr, string_bytes, false, Option};
 ghost use Rattle.gw_model.specs.Views.{next_event};
+ghost use Rattle.gw_config.specs.Ranges.{AreInRange};
+ghost use Rattle.gw_config.specs.Seen.{settings_in};
 ghost use Rattle.tickets.specs.Answers.{IsPlain, answer_of};
 ghost use Rattle.tickets.specs.Desk.{with_answered, waiting_ticket};
 ghost use Rattle.admit.specs.Calls.{verdict_answers};
@@ -13,6 +15,7 @@ ghost use Rattle.file_calls.specs.PartSteps.{IsAsked, IsPlainVerdict, SameButRoo
 use crate::answers::{send_one, send_verdict};
 use crate::reply::{closed_text, said_text};
 use admit::Verdict;
+use gw_config::Config;
 use gw_model::Trace;
 use std::alloc::{AllocError, Global};
 use std::marker::Model;
@@ -21,36 +24,48 @@ use tickets::{Answer, Body, ReplyDesk, Sent, Ticket};
 /// The notes that one act may make.
 pub const NOTES: usize = 9;
 
-/// The requests that wait for an answer, and the outcomes that were noted.
+/// The requests that wait for an answer, the outcomes that were noted, and the settings of the gateway.
 #[derive(Drop)]
 pub struct RequestTracker {
     pub(crate) alloc: Global,
     pub(crate) desk: ReplyDesk,
     pub(crate) trace: Trace,
+    pub(crate) config: Config,
 }
 
 impl Model for RequestTracker {
     ghost use Rattle.std.specs.Prelude.{◌≤◌};
+    ghost use Rattle.gw_config.specs.Ranges.{AreInRange};
+    ghost use Rattle.gw_config.specs.Seen.{settings_in};
     ghost use Rattle.file_calls.specs.Outside.{TrackerState};
 
     ghost Value = { TrackerState };
 
-    ghost view = { λ t. record { desk = t.desk; noted = t.trace } };
+    ghost view = { λ t. record { desk = t.desk; noted = t.trace; settings = settings_in t.config } };
 
     // Each request of the event has a ticket.
-    ghost invariant = { λ t. t.trace.request ≤ t.desk.last };
+    ghost invariant = { λ t. (t.trace.request ≤ t.desk.last) × AreInRange (settings_in t.config) };
 }
 
 impl RequestTracker {
     /// Nobody waits, and nothing was noted.
-    pub fn new(alloc: Global) -> RequestTracker
-        ensures { result ≡ new_tracker }
+    pub fn new(alloc: Global, config: Config) -> RequestTracker
+        requires in_range { AreInRange (settings_in config) }
+        ensures { result ≡ new_tracker (settings_in config) }
     {
         RequestTracker {
             alloc,
             desk: ReplyDesk::new(alloc),
             trace: Trace::new(alloc),
+            config,
         }
+    }
+
+    /// The settings of the gateway.
+    pub fn config(&self) -> &Config
+        ensures { settings_in result.now ≡ self.now.settings }
+    {
+        &self.config
     }
 
     /// The next event begins.
@@ -73,6 +88,7 @@ impl RequestTracker {
             → IfOk result (λ ticket. IsAsked conn xid NOTES ticket (part_state o self.old) (part_state o self.new)) }
         ensures err { (o : Option CellState) → OnErr result (SameButRoom (part_state o self.old) (part_state o self.new)) }
         ensures event { self.new.noted.event ≡ self.old.noted.event }
+        ensures settings { self.new.settings ≡ self.old.settings }
     {
         if self.trace.reserve(NOTES).is_err() {
             return Err(AllocError);
@@ -136,6 +152,7 @@ impl RequestTracker {
         ensures err { (act : Act) → IsRequest act conn xid → (o : Option CellState) (s : Store)
             → OnErr result (IsActCut (Unit {0}) act (scene (part_state o self.old) s) (scene (part_state o self.new) s)) }
         ensures event { self.new.noted.event ≡ self.old.noted.event }
+        ensures settings { self.new.settings ≡ self.old.settings }
     {
         let ticket = self.begin_request(conn, xid)?;
         self.refuse(ticket)
@@ -148,6 +165,7 @@ impl RequestTracker {
         ensures err { (o : Option CellState) (s : Store) → OnErr result (IsActCut (Unit {0}) (Reply conn xid reply.now)
             (scene (part_state o self.old) s) (scene (part_state o self.new) s)) }
         ensures event { self.new.noted.event ≡ self.old.noted.event }
+        ensures settings { self.new.settings ≡ self.old.settings }
     {
         let ticket = self.begin_request(conn, xid)?;
         let Ok(text) = Vec::from_slice(self.alloc, reply) else {
@@ -163,6 +181,7 @@ impl RequestTracker {
         ensures err { (o : Option CellState) (s : Store) → OnErr result (IsActCut (Unit {0}) (CloseConnection conn)
             (scene (part_state o self.old) s) (scene (part_state o self.new) s)) }
         ensures event { self.new.noted.event ≡ self.old.noted.event }
+        ensures settings { self.new.settings ≡ self.old.settings }
     {
         self.desk.cancel_conn(conn);
         closed_text(self.alloc, conn)
@@ -174,6 +193,7 @@ impl RequestTracker {
         ensures step { (o : Option CellState) (s : Store) → IsStep (Unit {0}) (HangUp conn)
             (scene (part_state o self.old) s) (scene (part_state o self.new) s) [] false }
         ensures event { self.new.noted.event ≡ self.old.noted.event + 1 }
+        ensures settings { self.new.settings ≡ self.old.settings }
     {
         self.trace.begin_event();
         self.desk.cancel_conn(conn);

@@ -6,6 +6,7 @@ use Rattle.admit.specs.Calls.{write_request}
 use Rattle.gw_model.specs.Sides.{side_write_step}
 use Rattle.gw_model.specs.Views.{TraceState}
 use Rattle.writeback.specs.Steps.{with_calls}
+use Rattle.gw_config.specs.Seen.{settings_in}
 use Rattle.file_calls.specs.PartSteps.{noted_after, part_with_refusal}
 use Rattle.file_calls.specs.Opening.{FailsClosed}
 use Rattle.file_calls.specs.Outside.{PartState, TrackerState, part_state, store_view}
@@ -20,7 +21,7 @@ returns-in-Err-Store-clause-tries g c =
     let e = rw c.in-Err-Store.field-0-is at c.in-Err-Store.ensures.failed in
     let a = c.not_written.ensures in
     let last = rw (← c.tracker.view_is) at c.requires.last in
-    let mid : PartState = record { opened = None; desk = c.tracker.inside.desk; noted = c.tracker.inside.trace } in
+    let mid : PartState = record { opened = None; desk = c.tracker.inside.desk; noted = c.tracker.inside.trace; settings = settings_in c.tracker.inside.config } in
     let s = store_view c.args.file g.C.Cluster c.args.cluster.now in
     let s' = store_view c.args.file g.C.Cluster c.open_file.new.cluster in
     rw (← c.tracker.view_is) (record {
@@ -34,7 +35,7 @@ pub returns-in-Err-Memory-clause-tries : goal.returns-in-Err-Memory-clause-tries
 returns-in-Err-Memory-clause-tries g c =
     let e = rw c.in-Err-Memory.field-0-is at c.in-Err-Memory.ensures.failed in
     let last = rw (← c.tracker.view_is) at c.requires.last in
-    let mid : PartState = record { opened = None; desk = c.tracker.inside.desk; noted = c.tracker.inside.trace } in
+    let mid : PartState = record { opened = None; desk = c.tracker.inside.desk; noted = c.tracker.inside.trace; settings = settings_in c.tracker.inside.config } in
     let s = store_view c.args.file g.C.Cluster c.args.cluster.now in
     let s' = store_view c.args.file g.C.Cluster c.open_file.new.cluster in
     rw (← c.tracker.view_is) (record {
@@ -48,7 +49,7 @@ returns-in-NoMemory-clause-tries g c =
     let o = c.in-Ok.ensures.opened in
     let t = c.in-NoMemory.ensures.step in
     let last = rw (← c.tracker.view_is) at c.requires.last in
-    let mid : PartState = record { opened = None; desk = c.tracker.inside.desk; noted = c.tracker.inside.trace } in
+    let mid : PartState = record { opened = None; desk = c.tracker.inside.desk; noted = c.tracker.inside.trace; settings = settings_in c.tracker.inside.config } in
     let s = store_view c.args.file g.C.Cluster c.args.cluster.now in
     let s' = store_view c.args.file g.C.Cluster c.give_file.new.self in
     let number = ap (λ t. t.number) t.0 ∙ last in
@@ -83,7 +84,7 @@ returns-in_default g c =
     let v = c.write.result in
     let t = c.write.ensures.step in
     let last = rw (← c.tracker.view_is) at c.requires.last in
-    let mid : PartState = record { opened = None; desk = c.tracker.inside.desk; noted = c.tracker.inside.trace } in
+    let mid : PartState = record { opened = None; desk = c.tracker.inside.desk; noted = c.tracker.inside.trace; settings = settings_in c.tracker.inside.config } in
     let s = store_view c.args.file g.C.Cluster c.args.cluster.now in
     let s' = store_view c.args.file g.C.Cluster c.open_file.new.cluster in
     let e = not_want v c.in_default.not-NoMemory in
@@ -97,9 +98,9 @@ returns-in_default g c =
         step = opening_step g.C.File.AppendFile.tells mid s s' _ (write_request c.args.request) refl last c.in-Ok.cell c.write.new.self c.args.request _ v c.args.file o refl e t c.write.ensures.stands;
         is = c.send_verdict-text.ensures.text;
       });
-      ready = told_ready v c.args.request.ticket c.in-Ok.cell _ c.write.new.self c.args.file t (o.left, o.limits, o.id);
+      ready = rw (← c.tracker.view_is) (told_ready v c.args.request.ticket c.in-Ok.cell _ c.write.new.self c.tracker.inside.config.limits c.args.file t (o.left, o.limits_are, o.id));
       home_after = λ told. o.out told ∙ ap (λ x. Lent x.mark) (sym file);
       others = c.in-Ok.ensures.others;
       losses = c.in-Ok.ensures.losses;
-      numbers = (ap (λ (x : TraceState). x.event) noted ∙ ap (λ (k : TrackerState). k.noted.event) c.tracker.view_is, ap (λ (x : TraceState). x.request) noted ∙ ap (λ (k : TrackerState). k.noted.request) c.tracker.view_is);
+      numbers = (ap (λ (x : TraceState). x.event) noted ∙ ap (λ (k : TrackerState). k.noted.event) c.tracker.view_is, ap (λ (x : TraceState). x.request) noted ∙ ap (λ (k : TrackerState). k.noted.request) c.tracker.view_is, ap (λ (k : TrackerState). k.settings) kept ∙ ap (λ (k : TrackerState). k.settings) c.tracker.view_is);
     }

@@ -1,4 +1,5 @@
-use Rattle.std.proofs.Common.{Some, refl, arith, string_bytes}
+use Rattle.std.proofs.Common.{Some, refl, sym, ◌∙◌, ap, arith, string_bytes}
+use Rattle.gw_config.specs.Settings.{Settings}
 use Rattle.file_calls.specs.Outside.{part_state}
 use Rattle.file_calls.specs.Acts.{ReadFile}
 use Rattle.file_calls.proofs.PartRequests.{cut_room, step_ok, step_err, read_acts}
@@ -16,7 +17,7 @@ returns-clause-ok g c = λ s.
     let o = Some c.args.cell.now in
     rw c.send_verdict.ensures.kept
     (step_ok string_bytes c.send_verdict.result _ _ _ _ _
-    (read_acts g.F.AppendFile.tells c.args.conn 9 c.in_ok-ticket.ticket (part_state o c.args.tracker.now) (part_state o c.begin_request.new.self) s c.args.cell.now c.read-verdict.new.self c.read-verdict.result _ refl c.requires.limits c.args.call _ (c.in_ok-ticket.ensures.ok o) refl c.read-verdict.ensures.step c.read-verdict.ensures.stands)
+    (read_acts g.F.AppendFile.tells c.args.conn 9 c.in_ok-ticket.ticket (part_state o c.args.tracker.now) (part_state o c.begin_request.new.self) s c.args.cell.now c.read-verdict.new.self c.read-verdict.result _ refl (c.requires.limits ∙ ap (λ (x : Settings). x.limits) (sym (c.in_ok-ticket.ensures.ok o).settings)) c.args.call _ (c.in_ok-ticket.ensures.ok o) refl c.read-verdict.ensures.step c.read-verdict.ensures.stands)
     c.send_verdict.ensures.text)
 
 pub returns-clause-err : goal.returns-clause-err
@@ -24,4 +25,4 @@ returns-clause-err g c = λ s.
     let o = Some c.args.cell.now in
     rw c.send_verdict.ensures.kept
     (step_err c.send_verdict.result _ _ _ _ _
-    (read_acts g.F.AppendFile.tells c.args.conn 9 c.in_ok-ticket.ticket (part_state o c.args.tracker.now) (part_state o c.begin_request.new.self) s c.args.cell.now c.read-verdict.new.self c.read-verdict.result _ refl c.requires.limits c.args.call _ (c.in_ok-ticket.ensures.ok o) refl c.read-verdict.ensures.step c.read-verdict.ensures.stands))
+    (read_acts g.F.AppendFile.tells c.args.conn 9 c.in_ok-ticket.ticket (part_state o c.args.tracker.now) (part_state o c.begin_request.new.self) s c.args.cell.now c.read-verdict.new.self c.read-verdict.result _ refl (c.requires.limits ∙ ap (λ (x : Settings). x.limits) (sym (c.in_ok-ticket.ensures.ok o).settings)) c.args.call _ (c.in_ok-ticket.ensures.ok o) refl c.read-verdict.ensures.step c.read-verdict.ensures.stands))

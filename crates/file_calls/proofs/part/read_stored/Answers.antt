@@ -1,6 +1,7 @@
 use Rattle.std.proofs.Common.{None, refl, ◌∙◌, ap}
 use Rattle.append_store.specs.State.{bytes_of}
 use Rattle.tickets.specs.Answers.{body_of}
+use Rattle.gw_config.specs.Seen.{settings_in}
 use Rattle.file_calls.specs.PartSteps.{part_with_refusal}
 use Rattle.file_calls.specs.Outside.{PartState, body_id, part_state, store_view}
 use Rattle.file_calls.proofs.PartClosed.{unread, unseen, part_step, of_answer, noting}
@@ -10,7 +11,7 @@ pub returns-in-Ok-clause-tries : goal.returns-in-Ok-clause-tries
 returns-in-Ok-clause-tries g c =
     let a = c.read_answer.ensures in
     let last = rw (← c.tracker.view_is) at c.requires.last in
-    let mid : PartState = record { opened = None; desk = c.tracker.inside.desk; noted = c.tracker.inside.trace } in
+    let mid : PartState = record { opened = None; desk = c.tracker.inside.desk; noted = c.tracker.inside.trace; settings = settings_in c.tracker.inside.config } in
     let s = store_view c.args.file g.C.Cluster c.args.cluster.now in
     let s' = store_view c.args.file g.C.Cluster c.read_body.new.cluster in
     rw (← c.tracker.view_is) (record {
@@ -25,7 +26,7 @@ returns-in-Err-Store-clause-tries g c =
     let e = rw c.in-Err-Store.field-0-is at c.in-Err-Store.ensures.failed in
     let a = c.read_answer-in-Err-Store.ensures in
     let last = rw (← c.tracker.view_is) at c.requires.last in
-    let mid : PartState = record { opened = None; desk = c.tracker.inside.desk; noted = c.tracker.inside.trace } in
+    let mid : PartState = record { opened = None; desk = c.tracker.inside.desk; noted = c.tracker.inside.trace; settings = settings_in c.tracker.inside.config } in
     let s = store_view c.args.file g.C.Cluster c.args.cluster.now in
     let s' = store_view c.args.file g.C.Cluster c.read_body.new.cluster in
     rw (← c.tracker.view_is) (record {
@@ -39,7 +40,7 @@ pub returns-in-Err-Memory-clause-tries : goal.returns-in-Err-Memory-clause-tries
 returns-in-Err-Memory-clause-tries g c =
     let e = rw c.in-Err-Memory.field-0-is at c.in-Err-Memory.ensures.failed in
     let last = rw (← c.tracker.view_is) at c.requires.last in
-    let mid : PartState = record { opened = None; desk = c.tracker.inside.desk; noted = c.tracker.inside.trace } in
+    let mid : PartState = record { opened = None; desk = c.tracker.inside.desk; noted = c.tracker.inside.trace; settings = settings_in c.tracker.inside.config } in
     let s = store_view c.args.file g.C.Cluster c.args.cluster.now in
     let s' = store_view c.args.file g.C.Cluster c.read_body.new.cluster in
     rw (← c.tracker.view_is) (record {

@@ -1,5 +1,6 @@
 use Rattle.std.proofs.Common.{◌≡◌, ◌∙◌, Some, refl, ap, string_bytes}
 use Rattle.gw_model.specs.Views.{TraceState, next_event}
+use Rattle.gw_config.specs.Seen.{settings_in}
 use Rattle.file_calls.specs.Acts.{TurnFile}
 use Rattle.file_calls.specs.Part.{send_result}
 use Rattle.file_calls.specs.Outside.{PartState}
@@ -8,14 +9,14 @@ use Rattle.file_calls.proofs.part.turn_cell.Goals as goal
 
 pub returns-then-is_err-clause-err : goal.returns-then-is_err-clause-err
 returns-then-is_err-clause-err g c = λ s.
-    let old : PartState = record { opened = Some c.args.cell.now; desk = c.tracker.inside.desk; noted = c.tracker.inside.trace } in
+    let old : PartState = record { opened = Some c.args.cell.now; desk = c.tracker.inside.desk; noted = c.tracker.inside.trace; settings = settings_in c.tracker.inside.config } in
     let begun : c.reserve.new.self ≡ record (next_event c.tracker.inside.trace) { room = c.reserve.new.self.room }
     = c.reserve.ensures.rest ∙ ap (λ (x : TraceState). let y : TraceState = record x { room = c.reserve.new.self.room } in y) c.begin_event.ensures in
     rw (← c.tracker.view_is) (begun_cut g.F.AppendFile.tells TurnFile old s c.reserve.new.self begun)
 
 pub returns-clause-ok : goal.returns-clause-ok
 returns-clause-ok g c = λ s.
-    let old : PartState = record { opened = Some c.args.cell.now; desk = c.tracker.inside.desk; noted = c.tracker.inside.trace } in
+    let old : PartState = record { opened = Some c.args.cell.now; desk = c.tracker.inside.desk; noted = c.tracker.inside.trace; settings = settings_in c.tracker.inside.config } in
     let few = rw (← c.tracker.view_is) at c.requires.few in
     let begun : c.reserve.new.self ≡ record (next_event c.tracker.inside.trace) { room = c.reserve.new.self.room }
     = c.reserve.ensures.rest ∙ ap (λ (x : TraceState). let y : TraceState = record x { room = c.reserve.new.self.room } in y) c.begin_event.ensures in
@@ -28,7 +29,7 @@ returns-clause-ok g c = λ s.
 
 pub returns-clause-err : goal.returns-clause-err
 returns-clause-err g c = λ s.
-    let old : PartState = record { opened = Some c.args.cell.now; desk = c.tracker.inside.desk; noted = c.tracker.inside.trace } in
+    let old : PartState = record { opened = Some c.args.cell.now; desk = c.tracker.inside.desk; noted = c.tracker.inside.trace; settings = settings_in c.tracker.inside.config } in
     let few = rw (← c.tracker.view_is) at c.requires.few in
     let begun : c.reserve.new.self ≡ record (next_event c.tracker.inside.trace) { room = c.reserve.new.self.room }
     = c.reserve.ensures.rest ∙ ap (λ (x : TraceState). let y : TraceState = record x { room = c.reserve.new.self.room } in y) c.begin_event.ensures in
