@@ -3,6 +3,7 @@ use Rattle.std.proofs.Common.{◌≡◌, ℕ, ◌-◌, ◌^◌, ◌≤◌, ◌<�
 use Rattle.std.specs.Prelude.{◌==◌, OnOk, OnErr}
 use Rattle.std.proofs.KnownBytes.{Appends-nil, Appends-trans}
 use Rattle.gw_outside.specs.Causes.{Rose}
+use Rattle.gw_model.specs.declared.limits.Limits.{Limits}
 use Rattle.gw_model.specs.File.{File}
 use Rattle.gw_model.specs.Ending.{Ended, History, history_of}
 use Rattle.append_store.specs.State.{IsAway, bytes_of}
@@ -20,9 +21,9 @@ use Rattle.nfs_procs.proofs.ContextCounts.{total_least, total_tally}
 use Rattle.nfs_procs.proofs.ContextMaps.{at_itself, test_is, test_not}
 use Rattle.nfs_procs.proofs.ContextParts.{SameBut, body_apart}
 
-pub closing_start : {T E : Type 0} (tells : Type 0) (all : List (ℕ × CellState)) (held : Option (List ℕ)) (s : StoreState) (x : T) → AreBodiesSafe tells s.at all → AreCellsReady all
-    → ClosesFront {E = E} tells all held s (Ok x) held s all
-closing_start tells all held s x safe ready = record {
+pub closing_start : {T E : Type 0} (tells : Type 0) (limits : Limits) (all : List (ℕ × CellState)) (held : Option (List ℕ)) (s : StoreState) (x : T) → AreBodiesSafe tells s.at all → AreCellsReady limits all
+    → ClosesFront {E = E} tells limits all held s (Ok x) held s all
+closing_start tells limits all held s x safe ready = record {
   text = [];
   histories = [];
   spelled = refl;
@@ -69,12 +70,12 @@ module _ (file : ℕ) (c : CellState) (es : List (ℕ × CellState)) (n n' : Cou
   counts_tally = total_tally es (joined_counts n (file_counts c.file)) n' p.tally
 
 -- one more was closed
-pub closing_next : {T E : Type 0} (tells : Type 0) (all : List (ℕ × CellState)) (held : Option (List ℕ)) (before : StoreState) (written result : Result T E) (mid held' : Option (List ℕ)) (s s' : StoreState)
+pub closing_next : {T E : Type 0} (tells : Type 0) (limits : Limits) (all : List (ℕ × CellState)) (held : Option (List ℕ)) (before : StoreState) (written result : Result T E) (mid held' : Option (List ℕ)) (s s' : StoreState)
     (cells es : List (ℕ × CellState)) (file : ℕ) (c : CellState) → cells ≡ (file, c) ∷ es → entry_at file es ≡ None → ((q : ℕ) → (q ≡ file → ⊥) → entry_at q es ≡ entry_at q cells)
     → IsClosedBy written result file c mid held' → (tells → bytes_of (s'.at (body_id file)) ≡ c.file.content) → (tells → IsAway (s'.at (body_id file)) → ⊥) → (tells → SameBut file s s')
     → (tells → s'.losses (body_id file) ≡ s.losses (body_id file)) → CarriesCounts s.counts (file_counts c.file) s'.counts
-    → ClosesFront tells all held before written mid s cells → ClosesFront tells all held before result held' s' es
-closing_next tells all held before written result mid held' s s' cells es file c is none same closed bytes home but losses carries h =
+    → ClosesFront tells limits all held before written mid s cells → ClosesFront tells limits all held before result held' s' es
+closing_next tells limits all held before written result mid held' s s' cells es file c is none same closed bytes home but losses carries h =
     let later = h.later in
     let up = carries.faults.later in
     let here : entry_at file cells ≡ Some c = ap (entry_at file) is ∙ ap (λ b. cond b (Some c) (entry_at file es)) (at_itself file) in
@@ -87,7 +88,7 @@ closing_next tells all held before written result mid held' s s' cells es file c
       left = λ opens all_same. left_next file c es h.text closed.text (end_texts opens) closed.text_is (subst (λ cs. HistoriesLeft cs h.text (end_texts opens)) is (h.left opens all_same));
       bodies = λ told k. bodies_by told here k (k == file) refl ∙ h.bodies told k;
       safe = λ k. safe_next k (k == file) refl;
-      ready = (subst AreCellsReady is h.ready).3;
+      ready = (subst (AreCellsReady limits) is h.ready).3;
       others = λ told q apart. let a = objects_stay file s s' (but told) q apart in let b = h.others told q apart in (a.0 ∙ b.0, a.1 ∙ b.1);
       losses = λ told q. losses_same file s s' (but told) (losses told) q ∙ h.losses told q;
       later = omega (arith, later, up);
@@ -109,9 +110,9 @@ closing_next tells all held before written result mid held' s s' cells es file c
 
 -- all were closed
 
-pub closing_end : {T E : Type 0} (tells : Type 0) (all : List (ℕ × CellState)) (held : Option (List ℕ)) (before : StoreState) (written : Result T E) (held' : Option (List ℕ)) (s : StoreState) (cells : List (ℕ × CellState)) → cells ≡ []
-    → ClosesFront tells all held before written held' s cells → WritesHistories written all held held'
-closing_end tells all held before written held' s cells none h = record {
+pub closing_end : {T E : Type 0} (tells : Type 0) (limits : Limits) (all : List (ℕ × CellState)) (held : Option (List ℕ)) (before : StoreState) (written : Result T E) (held' : Option (List ℕ)) (s : StoreState) (cells : List (ℕ × CellState)) → cells ≡ []
+    → ClosesFront tells limits all held before written held' s cells → WritesHistories written all held held'
+closing_end tells limits all held before written held' s cells none h = record {
   text = h.text;
   histories = h.histories;
   spelled = h.spelled;
@@ -126,9 +127,9 @@ closing_end tells all held before written held' s cells none h = record {
         by [] same is = sym (is ∙ append-nil h.text)
         by (f ∷ fs) same is = absurd same
 
-pub closing_counts : {T E : Type 0} (tells : Type 0) (all : List (ℕ × CellState)) (held : Option (List ℕ)) (before : StoreState) (written : Result T E) (held' : Option (List ℕ)) (s : StoreState) (cells : List (ℕ × CellState)) → cells ≡ []
-    → ClosesFront tells all held before written held' s cells → GivesAllBack all before.counts s.counts
-closing_counts tells all held before written held' s cells none h = record {
+pub closing_counts : {T E : Type 0} (tells : Type 0) (limits : Limits) (all : List (ℕ × CellState)) (held : Option (List ℕ)) (before : StoreState) (written : Result T E) (held' : Option (List ℕ)) (s : StoreState) (cells : List (ℕ × CellState)) → cells ≡ []
+    → ClosesFront tells limits all held before written held' s cells → GivesAllBack all before.counts s.counts
+closing_counts tells limits all held before written held' s cells none h = record {
   later = h.later;
   faults = subst (λ cs. min (total_counts all before.counts).faults (2 ^ 64 - 1) ≤ (total_counts cs s.counts).faults) none h.carried;
   tally = ap (λ cs. (total_counts cs s.counts).tally) (sym none) ∙ h.tally;

@@ -35,6 +35,7 @@ part_is : (h : ProgramState) (s : StoreState) (k : ℕ) (w : World) → IsWorld 
 part_is h s k w is = record {
   opened = go (entry_at k h.cells) (entry_at k w.opens) refl (same_found StandsFor (is_at (nat_cmp k)) h.cells w.opens is.opens) (is.bodies k);
   desk = is.desk;
+  settings = is.settings;
 }
   where
     go : (a : Option CellState) (b : Option File) → entry_at k w.opens ≡ b → AreBoth StandsFor a b → body_in (w.bodies k) b ≡ body_at (s.at (body_id k)) a → IsOpen a (body_at (s.at (body_id k)) a) (part_of_file k w)
@@ -66,11 +67,11 @@ module _ (k : ℕ) (w : World) (p : Part) where
 -- a step of one file's part
 
 module _ (tells : Type 0) (operation : Operation) (k : ℕ) (act : Act) (h h' : ProgramState) (s s' : StoreState)
-    (aim : target_by_state h.names h.cells operation ≡ OnFile k act) (names : h'.names ≡ names_after operation h.names) (cells : h'.cells ≡ put_at k (entry_at k h'.cells) h.cells)
+    (aim : target_by_state h.tracker.settings h.names h.cells operation ≡ OnFile k act) (names : h'.names ≡ names_after operation h.names) (cells : h'.cells ≡ put_at k (entry_at k h'.cells) h.cells)
     (kept : IsContextKept (entry_at k h.cells) (entry_at k h'.cells)) (same : tells → SameBut k s s') where
   next_is_part : (w : World) (t : Outcomes) → IsWorld (world_scene h s) w → next w operation t ≡ with_names (names_after operation w.names) (target_result (OnFile k act) w t)
   unfolding next
-  next_is_part w t is = ap (λ x. with_names (names_after operation w.names) (target_result x w t)) (target_same operation h.names w.names h.cells w.opens is.names is.opens ∙ aim)
+  next_is_part w t is = ap (λ x. with_names (names_after operation w.names) (target_result x w t)) (target_same operation h.tracker.settings w.settings h.names w.names h.cells w.opens is.settings is.names is.opens ∙ aim)
 
   cells_other : (j : ℕ) → (j == k) ≡ false → entry_at j h'.cells ≡ entry_at j h.cells
   cells_other j e = ap (entry_at j) cells ∙ put_other j k (test_not j k e) (entry_at k h'.cells) h.cells
@@ -87,6 +88,7 @@ module _ (tells : Type 0) (operation : Operation) (k : ℕ) (act : Act) (h h' : 
         (same_put StandsFor k (entry_at k h'.cells) p.opened h.cells w.opens (both_of (entry_at k h'.cells) _ p after.opened) is.opens);
     bodies = λ j. go j (j == k) refl;
     desk = after.desk;
+    settings = after.settings;
   }
     where
       go : (j : ℕ) (b : Bool) → (j == k) ≡ b → world_bodies (with_part k p w) j ≡ bodies_at s'.at h'.cells j
@@ -136,10 +138,10 @@ abbrev desk_scene : ProgramState → TrackerState → StoreState → Scene
 desk_scene h tracker s = scene (part_state None tracker) (desk_store h s)
 
 module _ (tells : Type 0) (operation : Operation) (act : Act) (h h' : ProgramState) (s : StoreState)
-    (aim : target_by_state h.names h.cells operation ≡ OnDesk act) (names : h'.names ≡ names_after operation h.names) (cells : h'.cells ≡ h.cells) where
+    (aim : target_by_state h.tracker.settings h.names h.cells operation ≡ OnDesk act) (names : h'.names ≡ names_after operation h.names) (cells : h'.cells ≡ h.cells) where
   next_is_desk : (w : World) (t : Outcomes) → IsWorld (world_scene h s) w → next w operation t ≡ with_names (names_after operation w.names) (target_result (OnDesk act) w t)
   unfolding next
-  next_is_desk w t is = ap (λ x. with_names (names_after operation w.names) (target_result x w t)) (target_same operation h.names w.names h.cells w.opens is.names is.opens ∙ aim)
+  next_is_desk w t is = ap (λ x. with_names (names_after operation w.names) (target_result x w t)) (target_same operation h.tracker.settings w.settings h.names w.names h.cells w.opens is.settings is.names is.opens ∙ aim)
 
   same_counts : (outcomes : List Outcome) → IsCounted outcomes (total_counts h.cells s.counts) (total_counts h.cells s.counts) → IsCounted outcomes (total_counts h.cells s.counts) (total_counts h'.cells s.counts)
   same_counts outcomes p = subst (λ cs. IsCounted outcomes (total_counts h.cells s.counts) (total_counts cs s.counts)) (sym cells) p
@@ -152,13 +154,14 @@ module _ (tells : Type 0) (operation : Operation) (act : Act) (h h' : ProgramSta
     passed = record { after = d.passed.after; counts = same_counts d.outcomes d.passed.counts };
     next_is = λ told w is later fine.
         let t = ahead_at h.tracker.noted (d.outcomes ++ later) in
-        let g = d.next tt (desk_part w) (record { opened = (refl, refl); desk = is.desk }) later fine in
+        let g = d.next tt (desk_part w) (record { opened = (refl, refl); desk = is.desk; settings = is.settings }) later fine in
         subst (λ m. LeavesWorld (world_scene h' s) text stopped later m) (sym (next_is_desk w t is)) (record {
           world = record {
             names = ap (names_after operation) is.names ∙ sym names;
             opens = subst (λ cs. AllSame StandsFor cs w.opens) (sym cells) is.opens;
             bodies = λ j. is.bodies j ∙ ap (λ cs. bodies_at s.at cs j) (sym cells);
             desk = g.part.desk;
+            settings = g.part.settings;
           };
           text_is = g.text_is;
           stop = g.stop;

@@ -24,7 +24,7 @@ use Rattle.nfs_procs.proofs.WorldOperations.{passed_still}
 -- a request, whether it is of a file or of the desk
 
 module _ (tells : Type 0) (operation : Operation) (h h' : ProgramState) (s : StoreState) (names : h'.names ≡ names_after operation h.names) (cells : h'.cells ≡ h.cells) (conn xid : ℕ) where
-  request_part : (k : ℕ) (act : Act) (text : List ℕ) → target_by_state h.names h.cells operation ≡ OnFile k act
+  request_part : (k : ℕ) (act : Act) (text : List ℕ) → target_by_state h.tracker.settings h.names h.cells operation ≡ OnFile k act
       → ((o : Option CellState) (x : Store) → IsStep (Unit {0}) act (scene (part_state o h.tracker) x) (scene (part_state o h'.tracker) x) text false) → IsDone tells operation (world_scene h s) (world_scene h' s) text false
   request_part k act text aim step =
       let old = scene_at k h s in
@@ -32,7 +32,7 @@ module _ (tells : Type 0) (operation : Operation) (h h' : ProgramState) (s : Sto
       = subst (λ o. IsStep (Unit {0}) act old (scene (part_state o h'.tracker) (record { body = s.at (body_id k); counts = s.counts })) text false) (sym (ap (entry_at k) cells)) (step (entry_at k h.cells) (record { body = s.at (body_id k); counts = s.counts })) in
       part_done tells operation k act h h' s s aim names (cells_same k h.cells h'.cells cells) (kept_equal k h.cells h'.cells cells) (λ told q apart. (refl, refl)) text false (always tells act old (scene_at k h' s) text false moved)
 
-  cut_part : (k : ℕ) (act : Act) → target_by_state h.names h.cells operation ≡ OnFile k act
+  cut_part : (k : ℕ) (act : Act) → target_by_state h.tracker.settings h.names h.cells operation ≡ OnFile k act
       → ((o : Option CellState) (x : Store) → IsActCut (Unit {0}) act (scene (part_state o h.tracker) x) (scene (part_state o h'.tracker) x)) → IsCutOff tells operation (world_scene h s) (world_scene h' s)
   cut_part k act aim step =
       let old = scene_at k h s in
@@ -40,14 +40,14 @@ module _ (tells : Type 0) (operation : Operation) (h h' : ProgramState) (s : Sto
       = subst (λ o. IsActCut (Unit {0}) act old (scene (part_state o h'.tracker) (record { body = s.at (body_id k); counts = s.counts }))) (sym (ap (entry_at k) cells)) (step (entry_at k h.cells) (record { body = s.at (body_id k); counts = s.counts })) in
       part_cut tells operation k act h h' s s aim names (cells_same k h.cells h'.cells cells) (kept_equal k h.cells h'.cells cells) (λ told q apart. (refl, refl)) (always_cut tells act old (scene_at k h' s) moved)
 
-  request_by : (target : Target) (text : List ℕ) → target_by_state h.names h.cells operation ≡ target → IsRequestOf target conn xid
+  request_by : (target : Target) (text : List ℕ) → target_by_state h.tracker.settings h.names h.cells operation ≡ target → IsRequestOf target conn xid
       → ((act : Act) → IsRequest act conn xid → (o : Option CellState) (x : Store) → IsStep (Unit {0}) act (scene (part_state o h.tracker) x) (scene (part_state o h'.tracker) x) text false)
       → IsDone tells operation (world_scene h s) (world_scene h' s) text false
   request_by (OnFile k act) text aim is step = request_part k act text aim (step act is)
   request_by (OnDesk act) text aim is step = desk_done tells operation act h h' s aim names cells text false (step act is None (desk_store h s))
   request_by OnNothing text aim is step = absurd is
 
-  cut_by : (target : Target) → target_by_state h.names h.cells operation ≡ target → IsRequestOf target conn xid
+  cut_by : (target : Target) → target_by_state h.tracker.settings h.names h.cells operation ≡ target → IsRequestOf target conn xid
       → ((act : Act) → IsRequest act conn xid → (o : Option CellState) (x : Store) → IsActCut (Unit {0}) act (scene (part_state o h.tracker) x) (scene (part_state o h'.tracker) x))
       → IsCutOff tells operation (world_scene h s) (world_scene h' s)
   cut_by (OnFile k act) aim is step = cut_part k act aim (step act is)
@@ -55,17 +55,17 @@ module _ (tells : Type 0) (operation : Operation) (h h' : ProgramState) (s : Sto
   cut_by OnNothing aim is step = absurd is
 
   -- memory was refused for it
-  pub refused_done : {E : Type 0} (result : Result (String Global) E) → IsRequestOf (target_by_state h.names h.cells operation) conn xid
+  pub refused_done : {E : Type 0} (result : Result (String Global) E) → IsRequestOf (target_by_state h.tracker.settings h.names h.cells operation) conn xid
       → ((act : Act) → IsRequest act conn xid → (o : Option CellState) (x : Store) → IfOk result (StepsTo (Unit {0}) act (scene (part_state o h.tracker) x) (scene (part_state o h'.tracker) x)))
       → IfOk result (λ text. IsDone tells operation (world_scene h s) (world_scene h' s) (string_bytes text) false)
-  refused_done (Ok text) is step = request_by (target_by_state h.names h.cells operation) (string_bytes text) refl is step
+  refused_done (Ok text) is step = request_by (target_by_state h.tracker.settings h.names h.cells operation) (string_bytes text) refl is step
   refused_done (Err e) is step = tt
 
-  pub refused_cut : {T E : Type 0} (result : Result T E) → IsRequestOf (target_by_state h.names h.cells operation) conn xid
+  pub refused_cut : {T E : Type 0} (result : Result T E) → IsRequestOf (target_by_state h.tracker.settings h.names h.cells operation) conn xid
       → ((act : Act) → IsRequest act conn xid → (o : Option CellState) (x : Store) → OnErr result (IsActCut (Unit {0}) act (scene (part_state o h.tracker) x) (scene (part_state o h'.tracker) x)))
       → OnErr result (IsCutOff tells operation (world_scene h s) (world_scene h' s))
   refused_cut (Ok text) is step = tt
-  refused_cut (Err e) is step = cut_by (target_by_state h.names h.cells operation) refl is step
+  refused_cut (Err e) is step = cut_by (target_by_state h.tracker.settings h.names h.cells operation) refl is step
 
 -- one that changes nothing
 
@@ -94,7 +94,7 @@ next_closed tells h s file is placed =
 
 module _ (tells : Type 0) (name : List ℕ) (h h' : ProgramState) (s s' : StoreState) (file : ℕ) (is : file ≡ next_file h.names) (new : has_name name h.names ≡ false)
     (names : h'.names ≡ insert_entry (slice_cmp nat_cmp) h.names name file) (cells : h'.cells ≡ h.cells) (closed : entry_at file h.cells ≡ None) (same : tells → SameBut file s s') where
-  aim : target_by_state h.names h.cells (CreateNamed name) ≡ OnFile file CreateFile
+  aim : target_by_state h.tracker.settings h.names h.cells (CreateNamed name) ≡ OnFile file CreateFile
   aim = ap (λ b. if b then OnNothing else OnFile (next_file h.names) CreateFile) new ∙ ap (λ k. OnFile k CreateFile) (sym is)
 
   names_is : h'.names ≡ names_after (CreateNamed name) h.names

@@ -5,6 +5,7 @@ use Rattle.std.specs.Ordering.{nat_cmp}
 use Rattle.std.specs.BTreeMap.{is_at}
 use Rattle.gw_model.specs.File.{File, NotWritten}
 use Rattle.gw_model.specs.Statuses.{jukebox}
+use Rattle.gw_config.specs.Settings.{Settings}
 use Rattle.file_cell.specs.State.{CellState}
 use Rattle.file_cell.specs.Files.{StandsFor}
 use Rattle.file_calls.specs.Acts.{WriteFile}
@@ -27,18 +28,20 @@ module _ {V W : Type 0} (R : V → W → Type 0) where
   some_same (Some v) None h = absurd h
   some_same None (Some w) h = absurd h
 
-  may_same : (k : ℕ) (es : List (ℕ × V)) (fs : List (ℕ × W)) → AllSame R es fs → may_open k fs ≡ may_open k es
-  may_same k es fs h =
-      ap (λ b. b || nat_lt (length fs) 128) (some_same (entry_at k es) (entry_at k fs) (same_found R (is_at (nat_cmp k)) es fs h))
-      ∙ ap (λ n. is_some (entry_at k es) || nat_lt n 128) (length_same es fs h)
+  may_same : (most k : ℕ) (es : List (ℕ × V)) (fs : List (ℕ × W)) → AllSame R es fs → may_open most k fs ≡ may_open most k es
+  may_same most k es fs h =
+      ap (λ b. b || nat_lt (length fs) most) (some_same (entry_at k es) (entry_at k fs) (same_found R (is_at (nat_cmp k)) es fs h))
+      ∙ ap (λ n. is_some (entry_at k es) || nat_lt n most) (length_same es fs h)
 
-  opening_same : (target : Target) (es : List (ℕ × V)) (fs : List (ℕ × W)) → AllSame R es fs → opening_target fs target ≡ opening_target es target
-  opening_same (OnFile k (WriteFile conn call)) es fs h = ap (λ b. if b then OnFile k (WriteFile conn call) else reply_target conn call.xid (NotWritten jukebox)) (may_same k es fs h)
-  opening_same _ es fs h = refl
+  opening_same : (most : ℕ) (target : Target) (es : List (ℕ × V)) (fs : List (ℕ × W)) → AllSame R es fs → opening_target most fs target ≡ opening_target most es target
+  opening_same most (OnFile k (WriteFile conn call)) es fs h = ap (λ b. if b then OnFile k (WriteFile conn call) else reply_target conn call.xid (NotWritten jukebox)) (may_same most k es fs h)
+  opening_same most _ es fs h = refl
 
-pub target_same : (operation : Operation) (names names' : List (List ℕ × ℕ)) (cells : List (ℕ × CellState)) (opens : List (ℕ × File)) → names' ≡ names → AllSame StandsFor cells opens
-    → target_by_state names' opens operation ≡ target_by_state names cells operation
-target_same (CreateNamed name) names names' cells opens is h = ap (creation_target name) is
-target_same (Serve conn message) names names' cells opens is h =
-    ap (λ ns. opening_target opens (message_target (length ns) conn message)) is ∙ opening_same StandsFor (message_target (length names) conn message) cells opens h
-target_same _ names names' cells opens is h = refl
+pub target_same : (operation : Operation) (settings settings' : Settings) (names names' : List (List ℕ × ℕ)) (cells : List (ℕ × CellState)) (opens : List (ℕ × File)) → settings' ≡ settings → names' ≡ names
+    → AllSame StandsFor cells opens → target_by_state settings' names' opens operation ≡ target_by_state settings names cells operation
+target_same (CreateNamed name) settings settings' names names' cells opens same is h = ap (creation_target name) is
+target_same (Serve conn message) settings settings' names names' cells opens same is h =
+    ap (λ (x : Settings). opening_target x.contexts opens (message_target x (length names') conn message)) same
+    ∙ ap (λ ns. opening_target settings.contexts opens (message_target settings (length ns) conn message)) is
+    ∙ opening_same StandsFor settings.contexts (message_target settings (length names) conn message) cells opens h
+target_same _ settings settings' names names' cells opens same is h = refl

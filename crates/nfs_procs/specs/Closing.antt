@@ -1,6 +1,7 @@
 -- What is left when a run ends: histories, and bodies that were given back.
 use Rattle.std.specs.Prelude.{◌≡◌, ℕ, ◌-◌, ◌^◌, ◌≤◌, min, List, [], ◌∷◌, ◌++◌, Option, Result, Ok, Err}
 use Rattle.std.specs.Io.KnownBytes.{Appends}
+use Rattle.gw_model.specs.declared.limits.Limits.{Limits}
 use Rattle.gw_model.specs.File.{File}
 use Rattle.gw_model.specs.Ending.{History}
 use Rattle.gw_outside.specs.Writing.{AppendsPrefix}
@@ -42,7 +43,7 @@ pub record HistoriesLeft (cells : List (ℕ × CellState)) (text all : List ℕ)
   pub is : all ≡ text ++ end_texts rest
 
 -- Some first contexts were closed, and these are left.
-pub record ClosesFront {T E : Type 0} (tells : Type 0) (all : List (ℕ × CellState)) (held : Option (List ℕ)) (before : StoreState) (written : Result T E) (held' : Option (List ℕ)) (now : StoreState) (cells : List (ℕ × CellState)) : Type 0 where
+pub record ClosesFront {T E : Type 0} (tells : Type 0) (limits : Limits) (all : List (ℕ × CellState)) (held : Option (List ℕ)) (before : StoreState) (written : Result T E) (held' : Option (List ℕ)) (now : StoreState) (cells : List (ℕ × CellState)) : Type 0 where
   pub text : List ℕ
   pub histories : List (ℕ × History)
   pub spelled : text ≡ histories_text histories
@@ -50,7 +51,7 @@ pub record ClosesFront {T E : Type 0} (tells : Type 0) (all : List (ℕ × CellS
   pub left : (opens : List (ℕ × File)) → AllSame StandsFor all opens → HistoriesLeft cells text (end_texts opens)
   pub bodies : tells → (k : ℕ) → bodies_at now.at cells k ≡ bodies_at before.at all k
   pub safe : AreBodiesSafe tells now.at cells
-  pub ready : AreCellsReady cells
+  pub ready : AreCellsReady limits cells
   pub others : tells → ObjectsStay before now
   pub losses : tells → SameLosses before now
   pub later : before.counts.faults ≤ now.counts.faults

@@ -1,14 +1,15 @@
 -- What the program keeps of many files, which worlds it stands for, and what operations leave of both.
 use Rattle.std.specs.Prelude.{◌≡◌, ◌≢◌, ℕ, ◌⊎◌, Bool, true, false, List, [], ◌∷◌, ◌++◌, length, Option, Some, None, string_bytes}
+use Rattle.gw_model.specs.declared.limits.Limits.{Limits}
 use Rattle.gw_model.specs.declared.object.ObjectId.{ObjectId}
 use Rattle.gw_model.specs.Ahead.{Outcome}
 use Rattle.append_store.specs.declared.store.Cluster.{Ghosts}
 use Rattle.append_store.specs.State.{ObjectState, Missing}
+use Rattle.gw_config.specs.Settings.{Settings}
 use Rattle.file_cell.specs.State.{CellState}
 use Rattle.file_cell.specs.Files.{StandsFor}
 use Rattle.file_calls.specs.Counts.{Counts, IsCounted, file_counts, joined_counts}
 use Rattle.file_calls.specs.OneReply.{Speaks}
-use Rattle.file_calls.specs.Part.{defaults}
 use Rattle.file_calls.specs.Outside.{TrackerState, new_tracker, PartState, Scene, Store, part_state, store_counts, body_id, body_at, scene, IsBodySafe, IsBodyHome, IsAfter, ahead_at}
 use Rattle.file_requests.specs.Messages.{is_file}
 use Rattle.file_requests.specs.Targets.{Target}
@@ -19,14 +20,14 @@ use Rattle.file_calls.specs.declared.part.StepResult.TheVariants as stepped
 
 -- what the program keeps
 
--- the names in the root, the contexts by rising number, and the requests that wait
+-- the names in the root, the contexts by rising number, and the requests that wait, with the settings
 pub record ProgramState : Type 0 where
   pub names : List (List ℕ × ℕ)
   pub cells : List (ℕ × CellState)
   pub tracker : TrackerState
 
-abbrev pub initial_state : ProgramState
-initial_state = record { names = []; cells = []; tracker = new_tracker }
+abbrev pub initial_state : Settings → ProgramState
+initial_state settings = record { names = []; cells = []; tracker = new_tracker settings }
 
 abbrev pub file_count : ProgramState → ℕ
 file_count k = length k.names
@@ -37,7 +38,7 @@ state_at k s = part_state (entry_at k s.cells) s.tracker
 
 -- an operation is of this, and makes no file
 abbrev pub HasTarget : ProgramState → Operation → Target → Type 0
-HasTarget s operation target = (target_by_state s.names s.cells operation ≡ target) × (names_after operation s.names ≡ s.names)
+HasTarget s operation target = (target_by_state s.tracker.settings s.names s.cells operation ≡ target) × (names_after operation s.names ≡ s.names)
 
 -- what a store has under each name, how often each was lost, and what the store counts
 pub record StoreState : Type 0 where
@@ -76,10 +77,10 @@ world_scene kept s = record { kept = kept; bodies = bodies_at s.at kept.cells; c
 abbrev pub world_scene_of : {C F : Type 0} → Ghosts C F → ProgramState → C → WorldScene
 world_scene_of g kept c = world_scene kept (store_state g c)
 
--- each context has no answer left, and is that of its file
-abbrev pub AreCellsReady : List (ℕ × CellState) → Type 0
-AreCellsReady [] = Unit {0}
-AreCellsReady (e ∷ es) = (e.1.left ≡ []) × (e.1.limits ≡ defaults) × (e.1.id.0 ≡ e.0) × AreCellsReady es
+-- each context has no answer left, is held to these limits, and is that of its file
+abbrev pub AreCellsReady : Limits → List (ℕ × CellState) → Type 0
+AreCellsReady limits [] = Unit {0}
+AreCellsReady limits (e ∷ es) = (e.1.left ≡ []) × (e.1.limits ≡ limits) × (e.1.id.0 ≡ e.0) × AreCellsReady limits es
 
 -- where a body is, by whether its file is in the tree
 abbrev pub IsBodyPlaced : Type 0 → Bool → ObjectState → Option CellState → Type 0
@@ -141,6 +142,7 @@ pub record IsWorld (s : WorldScene) (w : World) : Type 0 where
   pub opens : AllSame StandsFor s.kept.cells w.opens
   pub bodies : (k : ℕ) → world_bodies w k ≡ s.bodies k
   pub desk : w.desk ≡ s.kept.tracker.desk
+  pub settings : w.settings ≡ s.kept.tracker.settings
 
 -- what passed: outcomes that may come behind what was before, each a call that was counted or a refusal
 pub record Passed (old new : WorldScene) (outcomes : List Outcome) : Type 0 where

@@ -8,6 +8,7 @@ use Rattle.gw_model.specs.Ahead.{Outcomes}
 use Rattle.gw_model.specs.File.{File, NotWritten}
 use Rattle.gw_model.specs.Statuses.{jukebox}
 use Rattle.gw_model.specs.Ending.{Ended, history_of}
+use Rattle.gw_config.specs.Settings.{Settings}
 use Rattle.tickets.specs.Desk.{DeskState, new_desk}
 use Rattle.file_cell.specs.History.{history_text}
 use Rattle.file_calls.specs.Acts.{CreateFile, BeginEvent, WriteFile, CloseConnection, TurnFile, PumpFile}
@@ -41,9 +42,10 @@ pub record World : Type 0 where
   pub opens : List (ℕ × File)
   -- the tickets issued, and those that wait for an answer
   pub desk : DeskState
+  pub settings : Settings
 
-abbrev pub world_at_start : (ℕ → List ℕ) → World
-world_at_start bodies = record { names = []; bodies = bodies; opens = []; desk = new_desk }
+abbrev pub world_at_start : Settings → (ℕ → List ℕ) → World
+world_at_start settings bodies = record { names = []; bodies = bodies; opens = []; desk = new_desk; settings = settings }
 
 -- contexts
 
@@ -66,14 +68,14 @@ module _ {V : Type 0} where
   abbrev pub put_at : ℕ → Option V → List (ℕ × V) → List (ℕ × V)
   put_at k o es = put_by (entry_at k es) o k es
 
-  -- a file has a context, or one more may be opened
-  abbrev pub may_open : ℕ → List (ℕ × V) → Bool
-  may_open k es = is_some (entry_at k es) || nat_lt (length es) 128
+  -- a file has a context, or one more may be opened, of at most so many
+  abbrev pub may_open : ℕ → ℕ → List (ℕ × V) → Bool
+  may_open most k es = is_some (entry_at k es) || nat_lt (length es) most
 
   -- A WRITE of a file without a context is refused where contexts stand at their number (RFC 1813 section 3.3.7).
-  abbrev pub opening_target : List (ℕ × V) → Target → Target
-  opening_target es (OnFile k (WriteFile conn call)) = if may_open k es then OnFile k (WriteFile conn call) else reply_target conn call.xid (NotWritten jukebox)
-  opening_target es target = target
+  abbrev pub opening_target : ℕ → List (ℕ × V) → Target → Target
+  opening_target most es (OnFile k (WriteFile conn call)) = if may_open most k es then OnFile k (WriteFile conn call) else reply_target conn call.xid (NotWritten jukebox)
+  opening_target most es target = target
 
 -- one file's part of the world, and the desk alone
 
@@ -81,13 +83,13 @@ abbrev pub with_body : ℕ → List ℕ → (ℕ → List ℕ) → ℕ → List 
 with_body k body bodies j = if j == k then body else bodies j
 
 abbrev pub part_of_file : ℕ → World → Part
-part_of_file k w = record { body = w.bodies k; opened = entry_at k w.opens; desk = w.desk }
+part_of_file k w = record { body = w.bodies k; opened = entry_at k w.opens; desk = w.desk; settings = w.settings }
 
 abbrev pub with_part : ℕ → Part → World → World
-with_part k p w = record w { bodies = with_body k p.body w.bodies; opens = put_at k p.opened w.opens; desk = p.desk }
+with_part k p w = record w { bodies = with_body k p.body w.bodies; opens = put_at k p.opened w.opens; desk = p.desk; settings = p.settings }
 
 abbrev pub desk_part : World → Part
-desk_part w = record { body = []; opened = None; desk = w.desk }
+desk_part w = record { body = []; opened = None; desk = w.desk; settings = w.settings }
 
 -- what each body holds
 abbrev pub world_bodies : World → ℕ → List ℕ
@@ -110,18 +112,18 @@ names_after _ names = names
 abbrev pub creation_target : List ℕ → List (List ℕ × ℕ) → Target
 creation_target name names = if has_name name names then OnNothing else OnFile (next_file names) CreateFile
 
--- what it is of, by the names and the contexts as they are then
-abbrev pub target_by_state : {V : Type 0} → List (List ℕ × ℕ) → List (ℕ × V) → Operation → Target
-target_by_state names opens (CreateNamed name) = creation_target name names
-target_by_state names opens StartEvent = OnDesk BeginEvent
-target_by_state names opens (Serve conn message) = opening_target opens (message_target (length names) conn message)
-target_by_state names opens (Break conn) = OnDesk (CloseConnection conn)
-target_by_state names opens (HangUp conn) = OnDesk (act.HangUp conn)
-target_by_state names opens (TurnOf file) = OnFile file TurnFile
-target_by_state names opens (PumpOf file) = OnFile file PumpFile
+-- what it is of, by the settings, and by the names and the contexts as they are then
+abbrev pub target_by_state : {V : Type 0} → Settings → List (List ℕ × ℕ) → List (ℕ × V) → Operation → Target
+target_by_state settings names opens (CreateNamed name) = creation_target name names
+target_by_state settings names opens StartEvent = OnDesk BeginEvent
+target_by_state settings names opens (Serve conn message) = opening_target settings.contexts opens (message_target settings (length names) conn message)
+target_by_state settings names opens (Break conn) = OnDesk (CloseConnection conn)
+target_by_state settings names opens (HangUp conn) = OnDesk (act.HangUp conn)
+target_by_state settings names opens (TurnOf file) = OnFile file TurnFile
+target_by_state settings names opens (PumpOf file) = OnFile file PumpFile
 
 abbrev pub target_in : World → Operation → Target
-target_in w operation = target_by_state w.names w.opens operation
+target_in w operation = target_by_state w.settings w.names w.opens operation
 
 -- what an operation leaves, the text that it writes, whether it ends the run, and the outcomes that are left
 pub record WorldResult : Type 0 where
@@ -135,7 +137,7 @@ world_result w s = record { world = w; text = s.text; stopped = s.stopped; ahead
 
 abbrev pub target_result : Target → World → Outcomes → WorldResult
 target_result (OnFile k act) w t = let s = next_part (part_of_file k w) act t in world_result (with_part k s.part w) s
-target_result (OnDesk act) w t = let s = next_part (desk_part w) act t in world_result (record w { desk = s.part.desk }) s
+target_result (OnDesk act) w t = let s = next_part (desk_part w) act t in world_result (record w { desk = s.part.desk; settings = s.part.settings }) s
 target_result OnNothing w t = record { world = w; text = []; stopped = false; ahead = t }
 
 abbrev pub with_names : List (List ℕ × ℕ) → WorldResult → WorldResult

@@ -5,6 +5,8 @@ ghost use Rattle.gw_model.specs.Views.{next_event};
 ghost use Rattle.append_store.specs.State.{IsAway, bytes_of};
 ghost use Rattle.gw_model.specs.declared.object.ObjectId.{ObjectId};
 ghost use Rattle.append_store.specs.State.{ObjectState};
+ghost use Rattle.gw_config.specs.Ranges.{AreInRange};
+ghost use Rattle.gw_config.specs.Seen.{settings_in};
 ghost use Rattle.file_calls.specs.Acts.{WriteFile, ReadFile, TurnFile, PumpFile, Reply, CloseConnection};
 ghost use Rattle.nfs_procs.specs.Closing.{GivesAllBack, WritesHistories};
 ghost use Rattle.file_requests.specs.Messages.{is_file as is_file_of};
@@ -27,6 +29,7 @@ use file_calls::{
 };
 use file_cell::FileCell;
 use file_requests::{Refused, Request, busy_request, read_request};
+use gw_config::Config;
 use gw_outside::{Sink, WriteFault};
 use range_map::SortedVecMap;
 use std::alloc::{AllocError, Global};
@@ -34,14 +37,11 @@ use std::collections::BTreeMap;
 use std::collections::btree_map::Entry;
 use std::marker::Model;
 
-/// How many files may have a context at a time.
-const MAX_CONTEXTS: usize = 128;
-
 /// The number of the file that is made first.
 const FIRST_FILE: u64 = 4;
 
-/// The names of the files in the root, the contexts of the files by their numbers, the requests that wait for an answer, and
-/// the outcomes that were noted.
+/// The names of the files in the root, the contexts of the files by their numbers, the requests that wait for an answer, the
+/// outcomes that were noted, and the settings of the gateway.
 #[derive(Drop)]
 pub struct World<C: Cluster> {
     alloc: Global,
@@ -57,19 +57,20 @@ impl<C: Cluster> Model for World<C> {
 
     ghost view = { λ w. record { names = w.names.entries; cells = w.cells.entries; tracker = w.tracker } };
 
-    ghost invariant = { λ w. AreCellsReady w.cells.entries };
+    ghost invariant = { λ w. AreCellsReady w.tracker.settings.limits w.cells.entries };
 }
 
 impl<C: Cluster> World<C> {
     /// No file is in the tree, nobody waits, and nothing was noted.
-    pub fn new(alloc: Global) -> World<C>
-        ensures { result ≡ initial_state }
+    pub fn new(alloc: Global, config: Config) -> World<C>
+        requires in_range { AreInRange (settings_in config) }
+        ensures { result ≡ initial_state (settings_in config) }
     {
         World {
             alloc,
             names: BTreeMap::new(alloc),
             cells: BTreeMap::new(alloc),
-            tracker: RequestTracker::new(alloc),
+            tracker: RequestTracker::new(alloc, config),
         }
     }
 
@@ -108,6 +109,7 @@ impl<C: Cluster> World<C> {
         ensures there { IsText result → C.File.tells
             → StaysThere (store_state C.Cluster cluster.old) (store_state C.Cluster cluster.new) }
         ensures event { self.new.tracker.noted.event ≡ self.old.tracker.noted.event }
+        ensures settings { self.new.tracker.settings ≡ self.old.tracker.settings }
         ensures cause { result ≡ StepResult.StoreFault → Rose
             (world_scene_of C.Cluster self.old cluster.old).counts.faults (world_scene_of C.Cluster self.new cluster.new).counts.faults }
     {
@@ -132,6 +134,7 @@ impl<C: Cluster> World<C> {
         ensures there { IsText result → C.File.tells
             → StaysThere (store_state C.Cluster cluster.old) (store_state C.Cluster cluster.new) }
         ensures event { self.new.tracker.noted.event ≡ self.old.tracker.noted.event }
+        ensures settings { self.new.tracker.settings ≡ self.old.tracker.settings }
         ensures cause { result ≡ StepResult.StoreFault → Rose
             (world_scene_of C.Cluster self.old cluster.old).counts.faults (world_scene_of C.Cluster self.new cluster.new).counts.faults }
     {
@@ -153,6 +156,7 @@ impl<C: Cluster> World<C> {
         ensures part { ChangesPart file self.old self.new }
         ensures same { SameFile (entry_at file self.old.cells) (entry_at file self.new.cells) }
         ensures event { self.new.tracker.noted.event ≡ self.old.tracker.noted.event + 1 }
+        ensures settings { self.new.tracker.settings ≡ self.old.tracker.settings }
     {
         match self.cells.get_mut(&file) {
             Some(cell) => turn_cell(cell, &mut self.tracker),
@@ -169,6 +173,7 @@ impl<C: Cluster> World<C> {
         ensures part { ChangesPart file self.old self.new }
         ensures same { SameFile (entry_at file self.old.cells) (entry_at file self.new.cells) }
         ensures event { self.new.tracker.noted.event ≡ self.old.tracker.noted.event + 1 }
+        ensures settings { self.new.tracker.settings ≡ self.old.tracker.settings }
     {
         match self.cells.get_mut(&file) {
             Some(cell) => pump_cell(cell, &mut self.tracker),
@@ -187,6 +192,7 @@ impl<C: Cluster> World<C> {
             → AreBodiesPlaced C.File.tells (file_count_of self.new) at self.new.cells }
         ensures names { self.new.names ≡ self.old.names }
         ensures event { self.new.tracker.noted.event ≡ self.old.tracker.noted.event + 1 }
+        ensures settings { self.new.tracker.settings ≡ self.old.tracker.settings }
     {
         self.turn_part(file)
     }
@@ -202,6 +208,7 @@ impl<C: Cluster> World<C> {
             → AreBodiesPlaced C.File.tells (file_count_of self.new) at self.new.cells }
         ensures names { self.new.names ≡ self.old.names }
         ensures event { self.new.tracker.noted.event ≡ self.old.tracker.noted.event + 1 }
+        ensures settings { self.new.tracker.settings ≡ self.old.tracker.settings }
     {
         self.pump_part(file)
     }
@@ -212,6 +219,7 @@ impl<C: Cluster> World<C> {
         ensures step { (s : StoreState) → IsDone C.File.tells (HangUpOf conn) (world_scene self.old s) (world_scene self.new s) [] false }
         ensures same { (self.new.names ≡ self.old.names) × (self.new.cells ≡ self.old.cells) }
         ensures event { self.new.tracker.noted.event ≡ self.old.tracker.noted.event + 1 }
+        ensures settings { self.new.tracker.settings ≡ self.old.tracker.settings }
     {
         self.tracker.hang_up(conn);
     }
@@ -225,6 +233,7 @@ impl<C: Cluster> World<C> {
             → OnErr result (IsCutOff C.File.tells operation (world_scene self.old s) (world_scene self.new s)) }
         ensures same { (self.new.names ≡ self.old.names) × (self.new.cells ≡ self.old.cells) }
         ensures event { self.new.tracker.noted.event ≡ self.old.tracker.noted.event }
+        ensures settings { self.new.tracker.settings ≡ self.old.tracker.settings }
     {
         self.tracker.close_connection(conn)
     }
@@ -237,6 +246,7 @@ impl<C: Cluster> World<C> {
             (world_scene self.old s) (world_scene self.new s)) }
         ensures same { (self.new.names ≡ self.old.names) × (self.new.cells ≡ self.old.cells) }
         ensures event { self.new.tracker.noted.event ≡ self.old.tracker.noted.event }
+        ensures settings { self.new.tracker.settings ≡ self.old.tracker.settings }
     {
         self.close_connection(conn)
     }
@@ -250,21 +260,25 @@ impl<C: Cluster> World<C> {
             → OnErr result (IsCutOff C.File.tells operation (world_scene self.old s) (world_scene self.new s)) }
         ensures same { (self.new.names ≡ self.old.names) × (self.new.cells ≡ self.old.cells) }
         ensures event { self.new.tracker.noted.event ≡ self.old.tracker.noted.event }
+        ensures settings { self.new.tracker.settings ≡ self.old.tracker.settings }
     {
         self.tracker.reply_now(conn, xid, reply)
     }
 
     // Memory was refused while a request was read.
     fn refuse_request(&mut self, conn: u32, xid: u32) -> Result<String, AllocError>
-        ensures ok { (operation : Operation) → IsRequestOf (target_by_state self.old.names self.old.cells operation) conn xid
+        ensures ok { (operation : Operation)
+            → IsRequestOf (target_by_state self.old.tracker.settings self.old.names self.old.cells operation) conn xid
             → names_after operation self.old.names ≡ self.old.names → (s : StoreState)
             → IfOk result (λ text. IsDone C.File.tells operation
             (world_scene self.old s) (world_scene self.new s) (string_bytes text) false) }
-        ensures err { (operation : Operation) → IsRequestOf (target_by_state self.old.names self.old.cells operation) conn xid
+        ensures err { (operation : Operation)
+            → IsRequestOf (target_by_state self.old.tracker.settings self.old.names self.old.cells operation) conn xid
             → names_after operation self.old.names ≡ self.old.names → (s : StoreState)
             → OnErr result (IsCutOff C.File.tells operation (world_scene self.old s) (world_scene self.new s)) }
         ensures same { (self.new.names ≡ self.old.names) × (self.new.cells ≡ self.old.cells) }
         ensures event { self.new.tracker.noted.event ≡ self.old.tracker.noted.event }
+        ensures settings { self.new.tracker.settings ≡ self.old.tracker.settings }
     {
         self.tracker.refuse_request(conn, xid)
     }
@@ -290,6 +304,7 @@ impl<C: Cluster> World<C> {
         ensures others { OthersStay C.Cluster C.File.tells file cluster.old cluster.new }
         ensures losses { C.File.tells → C.losses cluster.new (body_id file) ≡ C.losses cluster.old (body_id file) }
         ensures event { self.new.tracker.noted.event ≡ self.old.tracker.noted.event }
+        ensures settings { self.new.tracker.settings ≡ self.old.tracker.settings }
     {
         match self.cells.entry(file) {
             Ok(Entry::Vacant(place)) => {
@@ -333,6 +348,7 @@ impl<C: Cluster> World<C> {
         ensures others { OthersStay C.Cluster C.File.tells file cluster.old cluster.new }
         ensures losses { C.File.tells → C.losses cluster.new (body_id file) ≡ C.losses cluster.old (body_id file) }
         ensures event { self.new.tracker.noted.event ≡ self.old.tracker.noted.event }
+        ensures settings { self.new.tracker.settings ≡ self.old.tracker.settings }
     {
         match self.cells.get_mut(&file) {
             Some(cell) => write_cell(conn, call, cell, &mut self.tracker),
@@ -358,6 +374,7 @@ impl<C: Cluster> World<C> {
         ensures same { C.File.tells → (q : ObjectId) → C.at cluster.new q ≡ C.at cluster.old q }
         ensures losses { C.File.tells → (q : ObjectId) → C.losses cluster.new q ≡ C.losses cluster.old q }
         ensures event { self.new.tracker.noted.event ≡ self.old.tracker.noted.event }
+        ensures settings { self.new.tracker.settings ≡ self.old.tracker.settings }
     {
         match self.cells.get_mut(&file) {
             Some(cell) => read_cell(conn, call, cell, &mut self.tracker),
@@ -389,6 +406,7 @@ impl<C: Cluster> World<C> {
         ensures losses { C.File.tells → SameLosses (store_state C.Cluster cluster.old) (store_state C.Cluster cluster.new) }
         ensures there { C.File.tells → StaysThere (store_state C.Cluster cluster.old) (store_state C.Cluster cluster.new) }
         ensures event { self.new.tracker.noted.event ≡ self.old.tracker.noted.event }
+        ensures settings { self.new.tracker.settings ≡ self.old.tracker.settings }
     {
         self.write_part(conn, file, call, cluster)
     }
@@ -415,6 +433,7 @@ impl<C: Cluster> World<C> {
         ensures losses { C.File.tells → SameLosses (store_state C.Cluster cluster.old) (store_state C.Cluster cluster.new) }
         ensures there { C.File.tells → StaysThere (store_state C.Cluster cluster.old) (store_state C.Cluster cluster.new) }
         ensures event { self.new.tracker.noted.event ≡ self.old.tracker.noted.event }
+        ensures settings { self.new.tracker.settings ≡ self.old.tracker.settings }
     {
         self.read_part(conn, file, call, cluster)
     }
@@ -440,6 +459,7 @@ impl<C: Cluster> World<C> {
         ensures losses { C.File.tells → SameLosses (store_state C.Cluster cluster.old) (store_state C.Cluster cluster.new) }
         ensures there { C.File.tells → StaysThere (store_state C.Cluster cluster.old) (store_state C.Cluster cluster.new) }
         ensures event { self.new.tracker.noted.event ≡ self.old.tracker.noted.event }
+        ensures settings { self.new.tracker.settings ≡ self.old.tracker.settings }
     {
         match request {
             Request::Close => {
@@ -463,19 +483,20 @@ impl<C: Cluster> World<C> {
 
     // Whether a file has a context, or one more may be opened.
     fn may_open(&self, file: u64) -> bool
-        ensures { result ≡ may_open_of file self.now.cells }
+        ensures { result ≡ may_open_of self.now.tracker.settings.contexts file self.now.cells }
     {
-        self.cells.contains_key(&file) || self.cells.len() < MAX_CONTEXTS
+        let most = self.tracker.config().contexts;
+        self.cells.contains_key(&file) || (self.cells.len() as u64) < most
     }
 
     // A request as it is served: a WRITE that finds no room for a context is answered at once.
     fn admit_request(&self, request: Request) -> Result<Request, Refused>
         ensures target { IfOk result (λ r. (conn : ℕ)
-            → request_target conn r ≡ opening_target self.now.cells (request_target conn request)) }
+            → request_target conn r ≡ opening_target self.now.tracker.settings.contexts self.now.cells (request_target conn request)) }
         ensures fits { IfOk result (λ r. (files : ℕ) → IsFitting files request → IsFitting files r) }
         ensures ending { IfOk result (λ r. is_ending r ≡ is_ending request) }
         ensures refused { IfErr result (λ e. (conn : ℕ)
-            → IsRequestOf (opening_target self.now.cells (request_target conn request)) conn e.xid) }
+            → IsRequestOf (opening_target self.now.tracker.settings.contexts self.now.cells (request_target conn request)) conn e.xid) }
         ensures goes_on { OnErr result (is_ending request ≡ false) }
     {
         match request {
@@ -495,10 +516,10 @@ impl<C: Cluster> World<C> {
         ensures fits { IfOk result (λ r. IsFitting (file_count_of self.now) r) }
         ensures ending { IfOk result (λ r. is_ending r ≡ ends_connection message) }
         ensures refused { IfErr result (λ e. (conn : ℕ)
-            → IsRequestOf (target_by_state self.now.names self.now.cells (Serve conn message)) conn e.xid) }
+            → IsRequestOf (target_by_state self.now.tracker.settings self.now.names self.now.cells (Serve conn message)) conn e.xid) }
         ensures goes_on { OnErr result (ends_connection message ≡ false) }
     {
-        match read_request(self.alloc, self.file_count(), message) {
+        match read_request(self.alloc, self.tracker.config(), self.file_count(), message) {
             Ok(request) => self.admit_request(request),
             Err(refused) => Err(refused),
         }
@@ -522,6 +543,7 @@ impl<C: Cluster> World<C> {
         ensures losses { C.File.tells → SameLosses (store_state C.Cluster cluster.old) (store_state C.Cluster cluster.new) }
         ensures there { C.File.tells → StaysThere (store_state C.Cluster cluster.old) (store_state C.Cluster cluster.new) }
         ensures event { self.new.tracker.noted.event ≡ self.old.tracker.noted.event }
+        ensures settings { self.new.tracker.settings ≡ self.old.tracker.settings }
     {
         match self.request_of(message) {
             Ok(request) => self.serve_request(conn, request, cluster),

@@ -1,28 +1,27 @@
-use Rattle.std.proofs.Common.{◌≡◌, Some, None, sym, ◌∙◌, ap, subst}
+use Rattle.std.proofs.Common.{◌≡◌, Some, None, sym, ◌∙◌, ap}
 use Rattle.std.specs.Ordering.{nat_cmp}
 use Rattle.std.specs.BTreeMap.{is_at}
 use Rattle.std.specs.Map.{set_value}
 use Rattle.std.specs.Option.{option_copied_mut}
 use Rattle.file_calls.specs.Acts.{PumpFile}
 use Rattle.nfs_procs.specs.World.{entry_at}
-use Rattle.nfs_procs.specs.Contexts.{AreCellsReady}
 use Rattle.nfs_procs.proofs.ContextMaps.{found_set}
 use Rattle.nfs_procs.proofs.ContextReady.{ready_at, ready_same, ready_set}
 use Rattle.nfs_procs.proofs.ContextParts.{always}
 use Rattle.nfs_procs.proofs.world.World.pump_part.Goals as goal
 
 pub pump_cell-requires-clause-none_left : goal.pump_cell-requires-clause-none_left
-pump_cell-requires-clause-none_left g c = (ready_at c.args.file c.self.inside.cells.entries c.in-Some.cell.now c.self.invariant (sym c.get_mut.ensures.value ∙ ap option_copied_mut c.in-Some.is)).0
+pump_cell-requires-clause-none_left g c = (ready_at c.self.inside.tracker.settings.limits c.args.file c.self.inside.cells.entries c.in-Some.cell.now c.self.invariant (sym c.get_mut.ensures.value ∙ ap option_copied_mut c.in-Some.is)).0
 
 pub pump_cell-requires-clause-limits : goal.pump_cell-requires-clause-limits
-pump_cell-requires-clause-limits g c = (ready_at c.args.file c.self.inside.cells.entries c.in-Some.cell.now c.self.invariant (sym c.get_mut.ensures.value ∙ ap option_copied_mut c.in-Some.is)).1
+pump_cell-requires-clause-limits g c = (ready_at c.self.inside.tracker.settings.limits c.args.file c.self.inside.cells.entries c.in-Some.cell.now c.self.invariant (sym c.get_mut.ensures.value ∙ ap option_copied_mut c.in-Some.is)).1
 
 pub invariant_of-self : goal.invariant_of-self
 invariant_of-self g c =
     let there : entry_at c.args.file c.self.inside.cells.entries ≡ Some c.in-Some.cell.now = sym c.get_mut.ensures.value ∙ ap option_copied_mut c.in-Some.is in
     let set : (c.get_mut.follows.lender c.pump_cell.new.cell).entries ≡ set_value (is_at (nat_cmp c.args.file)) c.self.inside.cells.entries c.pump_cell.new.cell = (c.get_mut.follows.holds c.pump_cell.new.cell).0 in
-    let ready = ready_same c.args.file c.in-Some.cell.now c.pump_cell.new.cell (ready_at c.args.file c.self.inside.cells.entries c.in-Some.cell.now c.self.invariant there) c.pump_cell.ensures.none_left c.pump_cell.ensures.same in
-    subst AreCellsReady (sym set) (ready_set c.args.file c.self.inside.cells.entries c.pump_cell.new.cell c.self.invariant ready)
+    let ready = ready_same c.self.inside.tracker.settings.limits c.args.file c.in-Some.cell.now c.pump_cell.new.cell (ready_at c.self.inside.tracker.settings.limits c.args.file c.self.inside.cells.entries c.in-Some.cell.now c.self.invariant there) c.pump_cell.ensures.none_left c.pump_cell.ensures.same in
+    rw (set, c.pump_cell.ensures.settings) (ready_set c.self.inside.tracker.settings.limits c.args.file c.self.inside.cells.entries c.pump_cell.new.cell c.self.invariant ready)
 
 pub returns-in-Some-clause-ok : goal.returns-in-Some-clause-ok
 returns-in-Some-clause-ok g c = λ s.

@@ -1,24 +1,23 @@
-use Rattle.std.proofs.Common.{◌≡◌, Some, sym, ◌∙◌, ap, subst}
+use Rattle.std.proofs.Common.{◌≡◌, Some, sym, ◌∙◌, ap}
 use Rattle.std.specs.Ordering.{nat_cmp}
 use Rattle.std.specs.BTreeMap.{is_at}
 use Rattle.std.specs.Map.{set_value}
 use Rattle.std.specs.Option.{option_copied_mut}
 use Rattle.file_calls.specs.Outside.{store_view}
 use Rattle.nfs_procs.specs.World.{entry_at}
-use Rattle.nfs_procs.specs.Contexts.{AreCellsReady}
 use Rattle.nfs_procs.proofs.ContextMaps.{found_set}
 use Rattle.nfs_procs.proofs.ContextReady.{ready_at, ready_set}
 use Rattle.nfs_procs.proofs.world.World.read_part.Goals as goal
 
 pub read_cell-requires : goal.read_cell-requires
-read_cell-requires g c = record { limits = (ready_at c.args.file c.self.inside.cells.entries c.in-Some.cell.now c.self.invariant (sym c.get_mut.ensures.value ∙ ap option_copied_mut c.in-Some.is)).1 }
+read_cell-requires g c = record { limits = (ready_at c.self.inside.tracker.settings.limits c.args.file c.self.inside.cells.entries c.in-Some.cell.now c.self.invariant (sym c.get_mut.ensures.value ∙ ap option_copied_mut c.in-Some.is)).1 }
 
 pub invariant_of-self : goal.invariant_of-self
 invariant_of-self g c =
     let there : entry_at c.args.file c.self.inside.cells.entries ≡ Some c.in-Some.cell.now = sym c.get_mut.ensures.value ∙ ap option_copied_mut c.in-Some.is in
     let set : (c.get_mut.follows.lender c.read_cell.new.cell).entries ≡ set_value (is_at (nat_cmp c.args.file)) c.self.inside.cells.entries c.read_cell.new.cell = (c.get_mut.follows.holds c.read_cell.new.cell).0 in
-    let ready = c.read_cell.ensures.ready c.args.file (ready_at c.args.file c.self.inside.cells.entries c.in-Some.cell.now c.self.invariant there) in
-    subst AreCellsReady (sym set) (ready_set c.args.file c.self.inside.cells.entries c.read_cell.new.cell c.self.invariant ready)
+    let ready = c.read_cell.ensures.ready c.self.inside.tracker.settings.limits c.args.file (ready_at c.self.inside.tracker.settings.limits c.args.file c.self.inside.cells.entries c.in-Some.cell.now c.self.invariant there) in
+    rw (set, c.read_cell.ensures.settings) (ready_set c.self.inside.tracker.settings.limits c.args.file c.self.inside.cells.entries c.read_cell.new.cell c.self.invariant ready)
 
 pub returns-in-Some-clause-ok : goal.returns-in-Some-clause-ok
 returns-in-Some-clause-ok g c =

@@ -9,16 +9,16 @@ pub loop-file-init : goal.loop-file-init
 loop-file-init g c =
     let safe = rw (← c.self.view_is) at c.requires.safe in
     rw (← c.self.view_is) (record {
-      closing = closing_start g.C.File.AppendFile.tells c.self.inside.cells.entries (g.K.Sink.held c.args.sink.now) (store_state g.C.Cluster c.args.cluster.now) _ safe c.self.invariant;
+      closing = closing_start g.C.File.AppendFile.tells c.self.inside.tracker.settings.limits c.self.inside.cells.entries (g.K.Sink.held c.args.sink.now) (store_state g.C.Cluster c.args.cluster.now) _ safe c.self.invariant;
       later = omega arith;
       cause = tt;
     })
 
 pub close_cell-written-requires-clause-none_left : goal.close_cell-written-requires-clause-none_left
-close_cell-written-requires-clause-none_left g c = (subst AreCellsReady c.in-Some.ensures.removal c.loop-file.invariant.closing.ready).0
+close_cell-written-requires-clause-none_left g c = (subst (AreCellsReady c.args.self.tracker.settings.limits) c.in-Some.ensures.removal c.loop-file.invariant.closing.ready).0
 
 pub close_cell-written-requires-clause-id : goal.close_cell-written-requires-clause-id
-close_cell-written-requires-clause-id g c = (subst AreCellsReady c.in-Some.ensures.removal c.loop-file.invariant.closing.ready).2
+close_cell-written-requires-clause-id g c = (subst (AreCellsReady c.args.self.tracker.settings.limits) c.in-Some.ensures.removal c.loop-file.invariant.closing.ready).2
 
 pub close_cell-written-requires-clause-out : goal.close_cell-written-requires-clause-out
 close_cell-written-requires-clause-out g c =
@@ -35,7 +35,7 @@ loop-file-preserved g c =
     let l = e.later in
     let m = inv.later in
     record {
-      closing = closing_next g.C.File.AppendFile.tells _ _ _ c.loop-file.written c.close_cell-written.result _ _ _ _ c.loop-file.cells.entries c.pop_first.new.self.entries c.in-Some.file c.in-Some.cell
+      closing = closing_next g.C.File.AppendFile.tells _ _ _ _ c.loop-file.written c.close_cell-written.result _ _ _ _ c.loop-file.cells.entries c.pop_first.new.self.entries c.in-Some.file c.in-Some.cell
           c.in-Some.ensures.removal u.1 (λ q apart. u.2 q (at_apart c.in-Some.file q (λ same. apart (sym same)))) e.history e.bytes e.home e.others e.losses e.counts inv.closing;
       later = omega (arith, l, m);
       cause = cause_next c.loop-file.written c.close_cell-written.result _ _ _ e.cause inv.cause m l;
@@ -44,12 +44,12 @@ loop-file-preserved g c =
 pub returns-clause-histories : goal.returns-clause-histories
 returns-clause-histories g c =
     let none : c.loop-file.cells.entries ≡ [] = none_left c.loop-file.cells.entries (λ h. let s = rw c.in_default.is at (c.pop_first.ensures.variant.1 h) in absurd (cc s)) in
-    closing_end g.C.File.AppendFile.tells c.args.self.cells (g.K.Sink.held c.args.sink.now) _ c.loop-file.written (g.K.Sink.held c.loop-file.sink) _ c.loop-file.cells.entries none c.loop-file.invariant.closing
+    closing_end g.C.File.AppendFile.tells _ c.args.self.cells (g.K.Sink.held c.args.sink.now) _ c.loop-file.written (g.K.Sink.held c.loop-file.sink) _ c.loop-file.cells.entries none c.loop-file.invariant.closing
 
 pub returns-clause-counts : goal.returns-clause-counts
 returns-clause-counts g c =
     let none : c.loop-file.cells.entries ≡ [] = none_left c.loop-file.cells.entries (λ h. let s = rw c.in_default.is at (c.pop_first.ensures.variant.1 h) in absurd (cc s)) in
-    closing_counts g.C.File.AppendFile.tells c.args.self.cells (g.K.Sink.held c.args.sink.now) (store_state g.C.Cluster c.args.cluster.now) c.loop-file.written (g.K.Sink.held c.loop-file.sink) (store_state g.C.Cluster c.loop-file.cluster) c.loop-file.cells.entries none c.loop-file.invariant.closing
+    closing_counts g.C.File.AppendFile.tells _ c.args.self.cells (g.K.Sink.held c.args.sink.now) (store_state g.C.Cluster c.args.cluster.now) c.loop-file.written (g.K.Sink.held c.loop-file.sink) (store_state g.C.Cluster c.loop-file.cluster) c.loop-file.cells.entries none c.loop-file.invariant.closing
 
 pub returns-clause-home : goal.returns-clause-home
 returns-clause-home g c = λ told k.

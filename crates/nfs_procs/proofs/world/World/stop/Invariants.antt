@@ -6,7 +6,7 @@ use Rattle.nfs_procs.proofs.world.World.stop.Given as goal
 
 abbrev pub invariant-loop-file : goal.invariant-loop-file
 invariant-loop-file g l = record {
-  closing : ClosesFront g.C.File.AppendFile.tells l.fn.self.cells (g.K.Sink.held l.fn.sink) (store_state g.C.Cluster l.fn.cluster) l.written (g.K.Sink.held l.sink) (store_state g.C.Cluster l.cluster) l.cells.entries;
+  closing : ClosesFront g.C.File.AppendFile.tells l.fn.self.tracker.settings.limits l.fn.self.cells (g.K.Sink.held l.fn.sink) (store_state g.C.Cluster l.fn.cluster) l.written (g.K.Sink.held l.sink) (store_state g.C.Cluster l.cluster) l.cells.entries;
   later : g.K.Sink.count l.fn.sink ≤ g.K.Sink.count l.sink;
   cause : OnErr l.written (Rose (g.K.Sink.count l.fn.sink) (g.K.Sink.count l.sink));
 }

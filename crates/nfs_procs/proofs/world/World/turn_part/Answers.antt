@@ -1,25 +1,24 @@
-use Rattle.std.proofs.Common.{◌≡◌, Some, None, sym, ◌∙◌, ap, subst}
+use Rattle.std.proofs.Common.{◌≡◌, Some, None, sym, ◌∙◌, ap}
 use Rattle.std.specs.Ordering.{nat_cmp}
 use Rattle.std.specs.BTreeMap.{is_at}
 use Rattle.std.specs.Map.{set_value}
 use Rattle.std.specs.Option.{option_copied_mut}
 use Rattle.file_calls.specs.Acts.{TurnFile}
 use Rattle.nfs_procs.specs.World.{entry_at}
-use Rattle.nfs_procs.specs.Contexts.{AreCellsReady}
 use Rattle.nfs_procs.proofs.ContextMaps.{found_set}
 use Rattle.nfs_procs.proofs.ContextReady.{ready_at, ready_same, ready_set}
 use Rattle.nfs_procs.proofs.ContextParts.{always}
 use Rattle.nfs_procs.proofs.world.World.turn_part.Goals as goal
 
 pub turn_cell-requires-clause-none_left : goal.turn_cell-requires-clause-none_left
-turn_cell-requires-clause-none_left g c = (ready_at c.args.file c.self.inside.cells.entries c.in-Some.cell.now c.self.invariant (sym c.get_mut.ensures.value ∙ ap option_copied_mut c.in-Some.is)).0
+turn_cell-requires-clause-none_left g c = (ready_at c.self.inside.tracker.settings.limits c.args.file c.self.inside.cells.entries c.in-Some.cell.now c.self.invariant (sym c.get_mut.ensures.value ∙ ap option_copied_mut c.in-Some.is)).0
 
 pub invariant_of-self : goal.invariant_of-self
 invariant_of-self g c =
     let there : entry_at c.args.file c.self.inside.cells.entries ≡ Some c.in-Some.cell.now = sym c.get_mut.ensures.value ∙ ap option_copied_mut c.in-Some.is in
     let set : (c.get_mut.follows.lender c.turn_cell.new.cell).entries ≡ set_value (is_at (nat_cmp c.args.file)) c.self.inside.cells.entries c.turn_cell.new.cell = (c.get_mut.follows.holds c.turn_cell.new.cell).0 in
-    let ready = ready_same c.args.file c.in-Some.cell.now c.turn_cell.new.cell (ready_at c.args.file c.self.inside.cells.entries c.in-Some.cell.now c.self.invariant there) c.turn_cell.ensures.none_left c.turn_cell.ensures.same in
-    subst AreCellsReady (sym set) (ready_set c.args.file c.self.inside.cells.entries c.turn_cell.new.cell c.self.invariant ready)
+    let ready = ready_same c.self.inside.tracker.settings.limits c.args.file c.in-Some.cell.now c.turn_cell.new.cell (ready_at c.self.inside.tracker.settings.limits c.args.file c.self.inside.cells.entries c.in-Some.cell.now c.self.invariant there) c.turn_cell.ensures.none_left c.turn_cell.ensures.same in
+    rw (set, c.turn_cell.ensures.settings) (ready_set c.self.inside.tracker.settings.limits c.args.file c.self.inside.cells.entries c.turn_cell.new.cell c.self.invariant ready)
 
 pub returns-in-Some-clause-ok : goal.returns-in-Some-clause-ok
 returns-in-Some-clause-ok g c = λ s.

@@ -22,8 +22,8 @@ returns-in-Some-clause-err g c =
 
 pub invariant_of-self : goal.invariant_of-self
 invariant_of-self g c =
-    let ready : IsCellReady c.args.file c.in-Some.cell = rw c.in-Some.is at c.first_write-cell.ensures.ready in
-    inserted_ready c.args.file c.self.inside.cells.entries _ c.in-Some.cell (search rules) c.self.invariant ready
+    let ready : IsCellReady c.self.inside.tracker.settings.limits c.args.file c.in-Some.cell = rw c.in-Some.is at c.first_write-cell.ensures.ready in
+    rw c.first_write-cell.ensures.settings (inserted_ready c.self.inside.tracker.settings.limits c.args.file c.self.inside.cells.entries _ c.in-Some.cell (search rules) c.self.invariant ready)
 
 pub returns-in-Err-clause-ok : goal.returns-in-Err-clause-ok
 returns-in-Err-clause-ok g c =
