@@ -18,6 +18,7 @@ use Rattle.file_requests.specs.declared.message.Asked.{Asked}
 use Rattle.file_requests.specs.declared.message.Asked.TheVariants as asked
 use Rattle.file_requests.specs.declared.message.Refused.{Refused}
 use Rattle.rpc_msg.specs.Numbers.{proc_unavail}
+use Rattle.gw_config.specs.Settings.{Settings}
 use Rattle.nfs_wire.specs.Programs.{nfs_program, mount_program, nfs_version}
 use Rattle.file_requests.specs.Messages.{IsFew, reply_to, write_with, asked_with, asked_by_args, is_served, asked_by_call, asked_by_fault, asked_of, handle_file, write_file}
 use Rattle.file_requests.specs.Targets.{Target, IsRequestOf, is_close, judged_read, judged_write, target_by}
@@ -132,11 +133,11 @@ request_of_write : (conn xid x : ℕ) (a : WriteArgs) (file : Result ℕ ℕ) �
 request_of_write conn xid x a (Err status) h = (refl, h)
 request_of_write conn xid x a (Ok file) h = request_cond conn x (nat_le (2 ^ 63) (a.offset + length a.data)) _ _ (refl, h) (request_cond conn x (length a.data == 0) _ _ (refl, h) (refl, h))
 
-pub request_of : (files : ℕ) (conn : ℕ) (a : Asked) (x : ℕ) → IsAskedBy a x → IsRequestOf (target_by files conn a) conn x
-request_of files conn asked.Close x h = absurd h
-request_of files conn (asked.Reply xid reply) x h = (refl, h)
-request_of files conn (asked.Read xid a) x h = request_of_read conn xid x a (handle_file files a.handle) h
-request_of files conn (asked.Write xid a) x h = request_of_write conn xid x a (write_file files a) h
+pub request_of : (settings : Settings) (files conn : ℕ) (a : Asked) (x : ℕ) → IsAskedBy a x → IsRequestOf (target_by settings files conn a) conn x
+request_of settings files conn asked.Close x h = absurd h
+request_of settings files conn (asked.Reply xid reply) x h = (refl, h)
+request_of settings files conn (asked.Read xid a) x h = request_of_read conn xid x a (handle_file settings.fsid files a.handle) h
+request_of settings files conn (asked.Write xid a) x h = request_of_write conn xid x a (write_file settings files a) h
 
 -- a message that asks for something is a call
 pub goes_on : (a : Asked) (x : ℕ) → IsAskedBy a x → is_close a ≡ false

@@ -1,5 +1,5 @@
 -- Worked messages of RFC 5531 section 9: what each asks for, computed by the definitions.
-use Rattle.std.proofs.Common.{◌≡◌, ℕ, List, [], ◌∷◌, ◌++◌, refl, Result, Ok, Err}
+use Rattle.std.proofs.Common.{true, ◌≡◌, ℕ, List, [], ◌∷◌, ◌++◌, refl, Result, Ok, Err}
 use Rattle.std.specs.Prelude.{codes}
 use Rattle.md5.specs.Md5.{md5, digest_bytes, hash_after, compress, rounds, block_words}
 use Rattle.handles.specs.Handle.{handle_text, ids_text}
@@ -12,6 +12,7 @@ use Rattle.file_requests.specs.declared.message.ReadArgs.{ReadArgs}
 use Rattle.file_requests.specs.declared.message.WriteArgs.{WriteArgs}
 use Rattle.file_requests.specs.declared.message.Asked.{Asked}
 use Rattle.file_requests.specs.declared.message.Asked.TheVariants.{Close, Reply, Read, Write}
+use Rattle.gw_config.specs.Settings.{Settings, default_settings}
 use Rattle.file_requests.specs.Messages.{asked_of, handle_file, write_file}
 
 abbrev words : List ℕ → List ℕ
@@ -109,10 +110,14 @@ short : Asks (7 ∷ 0 ∷ 2 ∷ []) Close
 unfolding Asks
 short = refl
 
--- the file that a WRITE is of, by how many files are in the tree, or why it is refused
+-- the file that a WRITE is of, by the settings and by how many files are in the tree, or why it is refused
+abbrev FindsBy : Settings → ℕ → WriteArgs → Result ℕ ℕ → Type 0
+unfolding md5 digest_bytes hash_after compress rounds block_words word long handle_text ids_text
+FindsBy settings files q found = write_file settings files q ≡ found
+
 abbrev Finds : ℕ → WriteArgs → Result ℕ ℕ → Type 0
 unfolding md5 digest_bytes hash_after compress rounds block_words word long handle_text ids_text
-Finds files q found = write_file files q ≡ found
+Finds files q found = write_file default_settings files q ≡ found
 
 taken : Finds 1 (args_a 1) (Ok 4)
 unfolding Finds
@@ -130,10 +135,26 @@ no_handle : Finds 1 (record (args_a 1) { handle = codes "a" }) (Err 10001)
 unfolding Finds
 no_handle = refl
 
+another_system : FindsBy (record default_settings { fsid = 2 }) 1 (args_a 1) (Err 70)
+unfolding FindsBy
+another_system = refl
+
+-- nothing may be changed, which the count comes before
+abbrev read_only : Settings
+read_only = record default_settings { read_only = true }
+
+unchanged : FindsBy read_only 1 (args_a 1) (Err 30)
+unfolding FindsBy
+unchanged = refl
+
+other_count_unchanged : FindsBy read_only 2 (args_a 2) (Err 22)
+unfolding FindsBy
+other_count_unchanged = refl
+
 -- of a READ the handle alone is judged
 abbrev Reads : ℕ → ReadArgs → Result ℕ ℕ → Type 0
 unfolding md5 digest_bytes hash_after compress rounds block_words word long handle_text ids_text
-Reads files q found = handle_file files q.handle ≡ found
+Reads files q found = handle_file 1 files q.handle ≡ found
 
 read_taken : Reads 1 args_five (Ok 4)
 unfolding Reads

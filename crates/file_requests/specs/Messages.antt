@@ -1,5 +1,5 @@
 -- What a whole message asks for (RFC 5531 section 9; RFC 1813 sections 2.5, 2.6, 3.3.0, 3.3.6, 3.3.7, 5.2.0).
-use Rattle.std.specs.Prelude.{ℕ, ◌+◌, ◌≤◌, ◌==◌, ◌||◌, ◌&&◌, bytes_eq, nat_le, nat_lt, not, Bool, if◌then◌else◌, List, ◌++◌, length, take, drop, Result, Ok, Err}
+use Rattle.std.specs.Prelude.{ℕ, ◌+◌, ◌≤◌, ◌==◌, ◌||◌, ◌&&◌, bytes_eq, nat_le, nat_lt, not, Bool, true, false, if◌then◌else◌, List, ◌++◌, length, take, drop, Result, Ok, Err}
 use Rattle.std.specs.Int.{w64, from_be_bytes}
 use Rattle.gw_model.specs.declared.Stable.{Stable}
 use Rattle.gw_model.specs.declared.Stable.TheVariants.{Unstable}
@@ -10,7 +10,8 @@ use Rattle.rpc_msg.specs.declared.fault.CallFault.{CallFault}
 use Rattle.rpc_msg.specs.declared.fault.CallFault.TheVariants.{NotCall, RpcMismatch, BadCred, RejectedCred, Short, Memory}
 use Rattle.rpc_msg.specs.Calls.{CallText, call_of}
 use Rattle.rpc_msg.specs.Replies.{accepted_text, rpc_mismatch_text, denial_text}
-use Rattle.gw_model.specs.Statuses.{badhandle, inval, stale}
+use Rattle.gw_model.specs.Statuses.{badhandle, inval, rofs, stale}
+use Rattle.gw_config.specs.Settings.{Settings}
 use Rattle.nfs_wire.specs.declared.args.Args.{Args}
 use Rattle.nfs_wire.specs.declared.args.Args.TheVariants as args
 use Rattle.nfs_wire.specs.Arguments.{args_of}
@@ -96,20 +97,26 @@ fsid_in handle = from_be_bytes w64 (drop 8 (take 16 handle))
 abbrev pub is_file : ℕ → ℕ → Bool
 is_file files file = nat_le 4 file && nat_lt file (4 + files)
 
--- the file of these numbers, if it is in the tree
-abbrev pub numbered_file : ℕ → ℕ → ℕ → Result ℕ ℕ
-numbered_file files file fsid = if fsid == 1 && is_file files file then Ok file else Err stale
+-- the file of these numbers, if it is in the tree of this file system
+abbrev pub numbered_file : ℕ → ℕ → ℕ → ℕ → Result ℕ ℕ
+numbered_file own files file fsid = if fsid == own && is_file files file then Ok file else Err stale
 
 -- The file that a handle names in the tree, or the status by which a request is refused for its handle.
-abbrev pub handle_file : ℕ → List ℕ → Result ℕ ℕ
-handle_file files handle =
+abbrev pub handle_file : ℕ → ℕ → List ℕ → Result ℕ ℕ
+handle_file own files handle =
     if not (is_handle handle) then Err badhandle
-    else numbered_file files (file_in handle) (fsid_in handle)
+    else numbered_file own files (file_in handle) (fsid_in handle)
 
 -- so of a WRITE, whose count is looked at then
 abbrev pub counted_file : WriteArgs → Result ℕ ℕ → Result ℕ ℕ
 counted_file q (Ok file) = if q.count == length q.data then Ok file else Err inval
 counted_file q (Err status) = Err status
 
-abbrev pub write_file : ℕ → WriteArgs → Result ℕ ℕ
-write_file files q = counted_file q (handle_file files q.handle)
+-- and then whether anything may be changed
+abbrev pub writable_file : Bool → Result ℕ ℕ → Result ℕ ℕ
+writable_file true (Ok file) = Err rofs
+writable_file false (Ok file) = Ok file
+writable_file read_only (Err status) = Err status
+
+abbrev pub write_file : Settings → ℕ → WriteArgs → Result ℕ ℕ
+write_file settings files q = writable_file settings.read_only (counted_file q (handle_file settings.fsid files q.handle))

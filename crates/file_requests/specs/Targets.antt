@@ -2,6 +2,7 @@
 use Rattle.std.specs.Prelude.{◌≡◌, ℕ, Bool, true, false, ◌+◌, ◌^◌, ◌<◌, ◌≤◌, ◌==◌, nat_le, if◌then◌else◌, List, length, Result, Ok, Err}
 use Rattle.gw_model.specs.declared.Stable.TheVariants.{Unstable}
 use Rattle.gw_model.specs.Statuses.{fbig}
+use Rattle.gw_config.specs.Settings.{Settings}
 use Rattle.gw_model.specs.File.{Body, Wrote, NotWritten, NotGiven}
 use Rattle.file_calls.specs.Replies.{reply_bytes}
 use Rattle.file_calls.specs.Acts.{Act, IsRequest, Reply, WriteFile, ReadFile, CloseConnection}
@@ -40,15 +41,15 @@ abbrev pub judged_read : Result ℕ ℕ → ℕ → ℕ → ReadArgs → Target
 judged_read (Err status) conn xid a = reply_target conn xid (NotGiven status)
 judged_read (Ok file) conn xid a = OnFile file (ReadFile conn (record { xid = xid; offset = a.offset; count = a.count }))
 
-abbrev pub target_by : ℕ → ℕ → Asked → Target
-target_by files conn asked.Close = OnDesk (CloseConnection conn)
-target_by files conn (asked.Reply xid reply) = OnDesk (Reply conn xid reply)
-target_by files conn (asked.Read xid a) = judged_read (handle_file files a.handle) conn xid a
-target_by files conn (asked.Write xid a) = judged_write (write_file files a) conn xid a
+abbrev pub target_by : Settings → ℕ → ℕ → Asked → Target
+target_by settings files conn asked.Close = OnDesk (CloseConnection conn)
+target_by settings files conn (asked.Reply xid reply) = OnDesk (Reply conn xid reply)
+target_by settings files conn (asked.Read xid a) = judged_read (handle_file settings.fsid files a.handle) conn xid a
+target_by settings files conn (asked.Write xid a) = judged_write (write_file settings files a) conn xid a
 
--- of a message, by how many files are in the tree
-abbrev pub message_target : ℕ → ℕ → List ℕ → Target
-message_target files conn message = target_by files conn (asked_of message)
+-- of a message, by the settings and by how many files are in the tree
+abbrev pub message_target : Settings → ℕ → ℕ → List ℕ → Target
+message_target settings files conn message = target_by settings files conn (asked_of message)
 
 -- what the program reads of it
 

@@ -4,12 +4,14 @@ ghost use Rattle.rpc_msg.specs.declared.fault.CallFault.{CallFault};
 ghost use Rattle.rpc_msg.specs.Views.{call_view};
 ghost use Rattle.file_requests.specs.declared.message.Asked.{Asked};
 ghost use Rattle.file_requests.specs.Messages.{is_served, reply_to, mismatch_text, write_with, asked_with, asked_by_call, asked_by_fault, asked_of, IsFew};
-ghost use Rattle.file_requests.specs.Messages.{numbered_file, handle_file, write_file, is_file};
+ghost use Rattle.gw_config.specs.Seen.{settings_in};
+ghost use Rattle.file_requests.specs.Messages.{counted_file, numbered_file, handle_file, write_file, is_file};
 ghost use Rattle.file_requests.specs.MessageFaults.{IsAskedOr, HasXid, IsAskedBy};
 
 use bytes::Bytes;
+use gw_config::Config;
 use gw_model::Stable;
-use gw_model::status::{NFS3ERR_BADHANDLE, NFS3ERR_INVAL, NFS3ERR_STALE};
+use gw_model::status::{NFS3ERR_BADHANDLE, NFS3ERR_INVAL, NFS3ERR_ROFS, NFS3ERR_STALE};
 use handles::file_of;
 use nfs_wire::program::{MOUNT_PROGRAM, NFS_PROGRAM, NFS_VERSION};
 use nfs_wire::{Args, ArgsFault, read_args};
@@ -64,9 +66,6 @@ const NULL: u32 = 0;
 const READ: u32 = 6;
 
 const WRITE: u32 = 7;
-
-// The file system, as handles name it.
-const FSID: u64 = 1;
 
 /// What a message asks for. Fails only for want of memory, and only for a message that asks for something under its own
 /// number.
@@ -211,13 +210,13 @@ fn is_file(files: u64, file: u64) -> bool
     4 <= file && file - 4 < files
 }
 
-// The file of these numbers, if it is in the tree.
-fn numbered_file(files: u64, file: u64, fsid: u64) -> Result<u64, u32>
-    ensures named { result ≡ numbered_file files file fsid }
+// The file of these numbers, if it is in the tree of this file system.
+fn numbered_file(own: u64, files: u64, file: u64, fsid: u64) -> Result<u64, u32>
+    ensures named { result ≡ numbered_file own files file fsid }
     ensures low { file < 2 ^ 64 }
     ensures low_fsid { fsid < 2 ^ 64 }
 {
-    if fsid == FSID && is_file(files, file) {
+    if fsid == own && is_file(files, file) {
         Ok(file)
     } else {
         Err(NFS3ERR_STALE)
@@ -226,20 +225,20 @@ fn numbered_file(files: u64, file: u64, fsid: u64) -> Result<u64, u32>
 
 /// The file that a handle names in the tree, or the status by which a request is refused for its handle (RFC 1813
 /// section 2.6).
-pub fn handle_file(files: u64, handle: &[u8]) -> Result<u64, u32>
-    ensures { result ≡ handle_file files handle.now }
+pub fn handle_file(own: u64, files: u64, handle: &[u8]) -> Result<u64, u32>
+    ensures { result ≡ handle_file own files handle.now }
 {
     match file_of(handle) {
-        Some((file, fsid)) => numbered_file(files, file.0, fsid),
+        Some((file, fsid)) => numbered_file(own, files, file.0, fsid),
         None => Err(NFS3ERR_BADHANDLE),
     }
 }
 
-/// So of a WRITE, whose count is looked at then (RFC 1813 section 3.3.7).
-pub fn write_file(files: u64, args: &WriteArgs) -> Result<u64, u32>
-    ensures { result ≡ write_file files args.now }
+// So of a WRITE, whose count is looked at then.
+fn counted_file(own: u64, files: u64, args: &WriteArgs) -> Result<u64, u32>
+    ensures { result ≡ counted_file args.now (handle_file own files args.now.handle) }
 {
-    match handle_file(files, args.handle.as_slice()) {
+    match handle_file(own, files, args.handle.as_slice()) {
         Ok(file) => {
             if args.count as usize == args.data.len() {
                 Ok(file)
@@ -248,5 +247,16 @@ pub fn write_file(files: u64, args: &WriteArgs) -> Result<u64, u32>
             }
         }
         Err(status) => Err(status),
+    }
+}
+
+/// The file of a WRITE, whose handle is judged first, then its count, and then whether anything may be changed (RFC 1813
+/// section 3.3.7).
+pub fn write_file(config: &Config, files: u64, args: &WriteArgs) -> Result<u64, u32>
+    ensures { result ≡ write_file (settings_in config.now) files args.now }
+{
+    match counted_file(config.fsid, files, args) {
+        Ok(_) if config.read_only => Err(NFS3ERR_ROFS),
+        judged => judged,
     }
 }

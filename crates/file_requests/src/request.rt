@@ -5,12 +5,14 @@ ghost use Rattle.tickets.specs.declared.answer.Body.TheVariants.{Write as WriteB
 ghost use Rattle.gw_model.specs.File.{NotWritten};
 ghost use Rattle.gw_model.specs.Statuses.{jukebox};
 ghost use Rattle.file_requests.specs.Targets.{message_target, target_by, request_target, reply_target, write_target, ends_connection, is_ending, IsFitting, IsRequestOf};
+ghost use Rattle.gw_config.specs.Seen.{settings_in};
 ghost use Rattle.file_requests.specs.Messages.{is_file};
 ghost use Rattle.file_requests.specs.declared.message.Asked.TheVariants as asked;
 
 use crate::message::{Asked, ReadArgs, Refused, WriteArgs, handle_file, read_message, write_file};
 use bytes::Bytes;
 use file_calls::{ReadCall, WriteCall, body_reply};
+use gw_config::Config;
 use gw_model::end_of;
 use gw_model::status::{NFS3_OK, NFS3ERR_FBIG, NFS3ERR_JUKEBOX};
 use std::alloc::Global;
@@ -91,17 +93,18 @@ fn write_request(alloc: Global, file: u64, xid: u32, args: WriteArgs) -> Result<
 
 fn judged_write_request(
     alloc: Global,
+    config: &Config,
     files: u64,
     xid: u32,
     args: WriteArgs,
 ) -> Result<Request, Refused>
     requires few { length args.data ≤ 1048576 }
-    ensures target { IfOk result (λ r. (conn : ℕ) → request_target conn r ≡ target_by files conn (asked.Write xid args)) }
+    ensures target { IfOk result (λ r. (conn : ℕ) → request_target conn r ≡ target_by (settings_in config.now) files conn (asked.Write xid args)) }
     ensures fits { IfOk result (λ r. IsFitting files r) }
     ensures goes_on { IfOk result (λ r. is_ending r ≡ false) }
-    ensures refused { IfErr result (λ e. (conn : ℕ) → IsRequestOf (target_by files conn (asked.Write xid args)) conn e.xid) }
+    ensures refused { IfErr result (λ e. (conn : ℕ) → IsRequestOf (target_by (settings_in config.now) files conn (asked.Write xid args)) conn e.xid) }
 {
-    match write_file(files, &args) {
+    match write_file(config, files, &args) {
         Err(status) => answer(alloc, xid, &write_body(status)),
         Ok(file) => write_request(alloc, file, xid, args),
     }
@@ -109,16 +112,17 @@ fn judged_write_request(
 
 fn judged_read_request(
     alloc: Global,
+    config: &Config,
     files: u64,
     xid: u32,
     args: ReadArgs,
 ) -> Result<Request, Refused>
-    ensures target { IfOk result (λ r. (conn : ℕ) → request_target conn r ≡ target_by files conn (asked.Read xid args)) }
+    ensures target { IfOk result (λ r. (conn : ℕ) → request_target conn r ≡ target_by (settings_in config.now) files conn (asked.Read xid args)) }
     ensures fits { IfOk result (λ r. IsFitting files r) }
     ensures goes_on { IfOk result (λ r. is_ending r ≡ false) }
-    ensures refused { IfErr result (λ e. (conn : ℕ) → IsRequestOf (target_by files conn (asked.Read xid args)) conn e.xid) }
+    ensures refused { IfErr result (λ e. (conn : ℕ) → IsRequestOf (target_by (settings_in config.now) files conn (asked.Read xid args)) conn e.xid) }
 {
-    match handle_file(files, args.handle.as_slice()) {
+    match handle_file(config.fsid, files, args.handle.as_slice()) {
         Err(status) => {
             let body = Body::Read {
                 status,
@@ -138,19 +142,24 @@ fn judged_read_request(
     }
 }
 
-/// What a message asks for, by how many files are in the tree. Want of memory gives the number of the request for which
-/// it was refused.
-pub fn read_request(alloc: Global, files: u64, message: Bytes) -> Result<Request, Refused>
-    ensures target { IfOk result (λ r. (conn : ℕ) → request_target conn r ≡ message_target files conn message) }
+/// What a message asks for, by the settings and by how many files are in the tree. Want of memory gives the number of the
+/// request for which it was refused.
+pub fn read_request(
+    alloc: Global,
+    config: &Config,
+    files: u64,
+    message: Bytes,
+) -> Result<Request, Refused>
+    ensures target { IfOk result (λ r. (conn : ℕ) → request_target conn r ≡ message_target (settings_in config.now) files conn message) }
     ensures fits { IfOk result (λ r. IsFitting files r) }
     ensures ending { IfOk result (λ r. is_ending r ≡ ends_connection message) }
-    ensures refused { IfErr result (λ e. (conn : ℕ) → IsRequestOf (message_target files conn message) conn e.xid) }
+    ensures refused { IfErr result (λ e. (conn : ℕ) → IsRequestOf (message_target (settings_in config.now) files conn message) conn e.xid) }
     ensures goes_on { OnErr result (ends_connection message ≡ false) }
 {
     match read_message(alloc, message)? {
         Asked::Close => Ok(Request::Close),
         Asked::Reply { xid, reply } => Ok(Request::Reply { xid, reply }),
-        Asked::Read { xid, args } => judged_read_request(alloc, files, xid, args),
-        Asked::Write { xid, args } => judged_write_request(alloc, files, xid, args),
+        Asked::Read { xid, args } => judged_read_request(alloc, config, files, xid, args),
+        Asked::Write { xid, args } => judged_write_request(alloc, config, files, xid, args),
     }
 }

@@ -4,6 +4,7 @@ use Rattle.gw_model.specs.File.{Wrote, NotWritten}
 use Rattle.gw_model.specs.declared.Stable.TheVariants.{Unstable}
 use Rattle.tickets.specs.declared.answer.Body.{Body}
 use Rattle.tickets.specs.Answers.{body_of}
+use Rattle.gw_config.specs.Seen.{settings_in}
 use Rattle.file_requests.specs.Messages.{write_file}
 use Rattle.file_requests.specs.Targets.{judged_write, reply_target}
 use Rattle.file_calls.proofs.Results.{with_ok}
@@ -12,8 +13,8 @@ use Rattle.file_requests.proofs.request.judged_write_request.Goals as goal
 
 pub returns-in-Err-clause-target : goal.returns-in-Err-clause-target
 returns-in-Err-clause-target c =
-    let is : Err c.in-Err.status ≡ write_file c.args.files c.args.args = sym c.in-Err.is ∙ c.write_file.ensures in
-    let refused : (c.in-Err.status == 0) ≡ false = subst (IsJudged c.args.files) (sym is) (judged_write_file c.args.files c.args.args) in
+    let is : Err c.in-Err.status ≡ write_file (settings_in c.args.config.now) c.args.files c.args.args = sym c.in-Err.is ∙ c.write_file.ensures in
+    let refused : (c.in-Err.status == 0) ≡ false = subst (IsJudged c.args.files) (sym is) (judged_write_file (settings_in c.args.config.now) c.args.files c.args.args) in
     with_ok c.answer.result (λ r t conn.
     t conn
     ∙ ap (λ (b : Body). reply_target conn c.args.xid (body_of b)) c.write_body.ensures
@@ -22,5 +23,5 @@ returns-in-Err-clause-target c =
 
 pub returns-in-Ok-clause-fits : goal.returns-in-Ok-clause-fits
 returns-in-Ok-clause-fits c =
-    let is : Ok c.in-Ok.file ≡ write_file c.args.files c.args.args = sym c.in-Ok.is ∙ c.write_file.ensures in
-    with_ok c.write_request.result (λ r fits. fits c.args.files (subst (IsJudged c.args.files) (sym is) (judged_write_file c.args.files c.args.args))) c.write_request.ensures.fits
+    let is : Ok c.in-Ok.file ≡ write_file (settings_in c.args.config.now) c.args.files c.args.args = sym c.in-Ok.is ∙ c.write_file.ensures in
+    with_ok c.write_request.result (λ r fits. fits c.args.files (subst (IsJudged c.args.files) (sym is) (judged_write_file (settings_in c.args.config.now) c.args.files c.args.args))) c.write_request.ensures.fits

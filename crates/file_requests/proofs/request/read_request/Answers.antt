@@ -1,5 +1,6 @@
 use Rattle.std.proofs.Common.{◌≡◌, ap, subst, sym, ◌∙◌, Result, Ok, Err, IfErr, ℕ}
 use Rattle.std.specs.Result.{IsErrAnd}
+use Rattle.gw_config.specs.Seen.{settings_in}
 use Rattle.file_requests.specs.Messages.{asked_of}
 use Rattle.file_calls.proofs.Results.{always_err, with_ok}
 use Rattle.file_requests.specs.Targets.{message_target, target_by, is_close, IsRequestOf}
@@ -16,18 +17,18 @@ passed_on (Err e) met P same p = subst P (sym same) p
 
 pub returns-in_err-read_message-clause-refused : goal.returns-in_err-read_message-clause-refused
 returns-in_err-read_message-clause-refused c =
-    let asks = λ (conn : ℕ). request_of c.args.files conn (asked_of c.args.message) c.in_err-read_message.field-0.0.xid c.in_err-read_message.ensures.asked_by in
-    passed_on c.from_residual.result c.in_err-read_message.field-0.0 (λ e. (conn : ℕ) → IsRequestOf (message_target c.args.files conn c.args.message) conn e.xid) c.from_residual.ensures.1 asks
+    let asks = λ (conn : ℕ). request_of (settings_in c.args.config.now) c.args.files conn (asked_of c.args.message) c.in_err-read_message.field-0.0.xid c.in_err-read_message.ensures.asked_by in
+    passed_on c.from_residual.result c.in_err-read_message.field-0.0 (λ e. (conn : ℕ) → IsRequestOf (message_target (settings_in c.args.config.now) c.args.files conn c.args.message) conn e.xid) c.from_residual.ensures.1 asks
 
 pub returns-in-Read-clause-refused : goal.returns-in-Read-clause-refused
 returns-in-Read-clause-refused c =
     let is : asked.Read c.in-Read.xid c.in-Read.args ≡ asked_of c.args.message = sym c.in-Read.is ∙ c.in_ok-read_message.ensures.asked in
-    subst (λ (a : Asked). IfErr c.judged_read_request.result (λ (e : Refused). (conn : ℕ) → IsRequestOf (target_by c.args.files conn a) conn e.xid)) is c.judged_read_request.ensures.refused
+    subst (λ (a : Asked). IfErr c.judged_read_request.result (λ (e : Refused). (conn : ℕ) → IsRequestOf (target_by (settings_in c.args.config.now) c.args.files conn a) conn e.xid)) is c.judged_read_request.ensures.refused
 
 pub returns-in-Write-clause-refused : goal.returns-in-Write-clause-refused
 returns-in-Write-clause-refused c =
     let is : asked.Write c.in-Write.xid c.in-Write.args ≡ asked_of c.args.message = sym c.in-Write.is ∙ c.in_ok-read_message.ensures.asked in
-    subst (λ (a : Asked). IfErr c.judged_write_request.result (λ (e : Refused). (conn : ℕ) → IsRequestOf (target_by c.args.files conn a) conn e.xid)) is c.judged_write_request.ensures.refused
+    subst (λ (a : Asked). IfErr c.judged_write_request.result (λ (e : Refused). (conn : ℕ) → IsRequestOf (target_by (settings_in c.args.config.now) c.args.files conn a) conn e.xid)) is c.judged_write_request.ensures.refused
 
 -- whether its connection ends
 
