@@ -1,5 +1,5 @@
 -- What an operation is of, for the program's contexts and for the world's.
-use Rattle.std.proofs.Common.{◌≡◌, ℕ, Option, Some, None, List, [], ◌∷◌, length, suc, refl, ◌∙◌, ap}
+use Rattle.std.proofs.Common.{◌≡◌, ℕ, Bool, true, false, Option, Some, None, List, [], ◌∷◌, length, suc, refl, ◌∙◌, ap}
 use Rattle.std.specs.Prelude.{◌||◌, nat_lt, is_some, if◌then◌else◌}
 use Rattle.std.specs.Ordering.{nat_cmp}
 use Rattle.std.specs.BTreeMap.{is_at}
@@ -9,7 +9,7 @@ use Rattle.gw_config.specs.Settings.{Settings}
 use Rattle.file_cell.specs.State.{CellState}
 use Rattle.file_cell.specs.Files.{StandsFor}
 use Rattle.file_calls.specs.Acts.{WriteFile}
-use Rattle.file_requests.specs.Targets.{Target, OnFile, message_target, reply_target}
+use Rattle.file_requests.specs.Targets.{Target, OnFile, IsRequestOf, message_target, reply_target}
 use Rattle.nfs_procs.specs.World.{Operation, CreateNamed, Serve, entry_at, may_open, opening_target, creation_target, target_by_state}
 use Rattle.nfs_procs.specs.Contexts.{AllSame, AreBoth}
 use Rattle.file_requests.specs.declared.request.Request.TheVariants as request
@@ -36,6 +36,15 @@ module _ {V W : Type 0} (R : V → W → Type 0) where
   opening_same : (most : ℕ) (target : Target) (es : List (ℕ × V)) (fs : List (ℕ × W)) → AllSame R es fs → opening_target most fs target ≡ opening_target most es target
   opening_same most (OnFile k (WriteFile conn call)) es fs h = ap (λ b. if b then OnFile k (WriteFile conn call) else reply_target conn call.xid (NotWritten jukebox)) (may_same most k es fs h)
   opening_same most _ es fs h = refl
+
+-- a WRITE that finds no room is answered under its own number
+pub opening_request : {V : Type 0} (most : ℕ) (es : List (ℕ × V)) (target : Target) (conn xid : ℕ) → IsRequestOf target conn xid → IsRequestOf (opening_target most es target) conn xid
+opening_request most es (OnFile k (WriteFile c call)) conn xid h = go (may_open most k es)
+  where
+    go : (b : Bool) → IsRequestOf (if b then OnFile k (WriteFile c call) else reply_target c call.xid (NotWritten jukebox)) conn xid
+    go true = h
+    go false = h
+opening_request most es _ conn xid h = h
 
 pub target_same : (operation : Operation) (settings settings' : Settings) (names names' : List (List ℕ × ℕ)) (cells : List (ℕ × CellState)) (opens : List (ℕ × File)) → settings' ≡ settings → names' ≡ names
     → AllSame StandsFor cells opens → target_by_state settings' names' opens operation ≡ target_by_state settings names cells operation
