@@ -1,6 +1,7 @@
 -- What a piece and an event come to.
 use Rattle.std.specs.Prelude.{◌≡◌, ℕ, Bool, true, false, List, [], string_bytes}
 use Rattle.append_store.specs.declared.store.Cluster.{Ghosts}
+use Rattle.gw_config.specs.Settings.{Settings}
 use Rattle.file_calls.specs.declared.part.StepResult.{StepResult}
 use Rattle.file_calls.specs.declared.part.StepResult.TheVariants as stepped
 use Rattle.nfs_procs.specs.Contexts.{ProgramState, WorldScene, Does, Stops, Cuts, initial_state, world_scene_of}
@@ -15,8 +16,8 @@ pub record GatewayState : Type 0 where
   pub links : List (ℕ × Link)
   pub kept : ProgramState
 
-abbrev pub idle_gateway : GatewayState
-idle_gateway = record { links = []; kept = initial_state }
+abbrev pub idle_gateway : Settings → GatewayState
+idle_gateway settings = record { links = []; kept = initial_state settings }
 
 abbrev pub gateway_scene : {C F : Type 0} → Ghosts C F → GatewayState → C → WorldScene
 gateway_scene g s c = world_scene_of g s.kept c

@@ -1,6 +1,8 @@
 // Connections and files: what each event asks for is done operation by operation.
 ghost use Rattle.std.specs.Prelude.{◌≡◌, ◌≤◌, ◌<◌, ◌+◌, ◌-◌, ◌++◌, ◌^◌, ℕ, IfOk, OnErr, drop, length, string_bytes};
 ghost use Rattle.gw_outside.specs.Causes.{Rose};
+ghost use Rattle.gw_config.specs.Ranges.{AreInRange};
+ghost use Rattle.gw_config.specs.Seen.{settings_in};
 ghost use Rattle.append_store.specs.State.{IsAway, bytes_of};
 ghost use Rattle.file_calls.specs.Outside.{IsText, body_id, store_counts, without_outcomes};
 ghost use Rattle.nfs_procs.specs.Contexts.{bodies_at, file_count, store_state, world_scene_of, AreBodiesPlaced, AreBodiesSafe};
@@ -13,6 +15,7 @@ use crate::event::Event;
 use crate::link::{Link, forget_link, give_link, link_after, take_link};
 use append_store::Cluster;
 use file_calls::{StepResult, step_result};
+use gw_config::Config;
 use gw_outside::{Sink, WriteFault};
 use nfs_procs::{Served, World};
 use rpc_record::{Stream, StreamStep};
@@ -88,13 +91,14 @@ fn serve_piece<C: Cluster>(
 
 impl<C: Cluster> Gateway<C> {
     /// No file is in the tree, nothing came on any connection, and nobody waits.
-    pub fn new(alloc: Global) -> Gateway<C>
-        ensures { result ≡ idle_gateway }
+    pub fn new(alloc: Global, config: Config) -> Gateway<C>
+        requires in_range { AreInRange (settings_in config) }
+        ensures { result ≡ idle_gateway (settings_in config) }
     {
         Gateway {
             alloc,
             links: BTreeMap::new(alloc),
-            world: World::new(alloc),
+            world: World::new(alloc, config),
         }
     }
 

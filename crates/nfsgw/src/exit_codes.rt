@@ -8,8 +8,8 @@ use std::alloc::{AllocError, Global};
 use std::fmt::Write;
 
 /// The exit code of a status.
-pub fn exit_code(status: Status) -> u8
-    ensures { result ≡ code_of status }
+pub fn exit_code(status: &Status) -> u8
+    ensures { result ≡ code_of status.now }
 {
     match status {
         Status::Done => 0,
@@ -19,6 +19,7 @@ pub fn exit_code(status: Status) -> u8
         Status::WriteFault => 5,
         Status::BadLine(_) => 6,
         Status::StoreFault => 7,
+        Status::BadConfig(_) => 8,
     }
 }
 
@@ -38,8 +39,8 @@ fn bad_line(alloc: Global, line: u64) -> Result<String, AllocError>
     Ok(out)
 }
 
-fn text_of_status(alloc: Global, status: Status) -> Result<String, AllocError>
-    ensures { IfOk result (λ text. string_bytes text ≡ text_of status) }
+fn text_of_status(alloc: Global, status: &Status) -> Result<String, AllocError>
+    ensures { IfOk result (λ text. string_bytes text ≡ text_of status.now) }
 {
     match status {
         Status::Done => Ok(String::new(alloc)),
@@ -47,8 +48,9 @@ fn text_of_status(alloc: Global, status: Status) -> Result<String, AllocError>
         Status::NoMemory => String::from_str(alloc, "nfsgw: out of memory"),
         Status::ReadFault => String::from_str(alloc, "nfsgw: read fault"),
         Status::WriteFault => String::from_str(alloc, "nfsgw: write fault"),
-        Status::BadLine(line) => bad_line(alloc, line),
+        Status::BadLine(line) => bad_line(alloc, *line),
         Status::StoreFault => String::from_str(alloc, "nfsgw: store fault"),
+        Status::BadConfig(_) => String::from_str(alloc, "nfsgw: bad configuration"),
     }
 }
 
@@ -56,7 +58,7 @@ fn text_of_status(alloc: Global, status: Status) -> Result<String, AllocError>
 pub fn status_text(alloc: Global, status: &Status) -> Result<Vec<u8>, NoMemory>
     ensures { IfOk result (λ text. text.items ≡ text_of status.now) }
 {
-    match text_of_status(alloc, *status) {
+    match text_of_status(alloc, status) {
         Ok(text) => Ok(text.into_bytes()),
         Err(_) => Err(NoMemory),
     }

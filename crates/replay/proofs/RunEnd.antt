@@ -16,6 +16,8 @@ use Rattle.file_calls.specs.OneReply.{Speaks}
 use Rattle.replay.specs.Spoken.{IsSpoken}
 use Rattle.nfs_procs.specs.Closing.{GivesAllBack, histories_text}
 use Rattle.file_calls.specs.Counts.{Counts, IsCounted}
+use Rattle.gw_config.specs.Settings.{Settings}
+use Rattle.gw_config.specs.declared.fault.ConfigFault.{ConfigFault}
 use Rattle.replay.specs.Headline.{Outside, Traffic, Moves, CutPlace, no_traffic, event_script, ahead_of, IsWhole, IsCutShort, IsReadUpTo, IsRun, IsComplete, Runs}
 use Rattle.gateway.specs.Links.{no_links, operations_of}
 use Rattle.nfs_procs.specs.World.{Operation, WorldResult, RunOutput, operations_result, output_of, end_text, end_texts, world_at_start, world_bodies}
@@ -70,7 +72,7 @@ ends_are : (opens : List (ℕ × File)) → end_texts opens ≡ histories_text (
 ends_are [] = refl
 ends_are (e ∷ es) = ap (λ x. history_text e.0 (history_of e.1 Ended) ++ x) (ends_are es)
 
-module _ (tells : Type 0) (before after : Outside) (state : GatewayState) where
+module _ (tells : Type 0) (settings : Settings) (before after : Outside) (state : GatewayState) where
   abbrev kept : ProgramState
   kept = state.kept
 
@@ -82,11 +84,11 @@ module _ (tells : Type 0) (before after : Outside) (state : GatewayState) where
   taken_all s h = sym (ap (λ x. s.taken ++ x) (nothing_left after.left h) ∙ append-nil s.taken)
 
   -- how far it was read, whatever was written of the histories
-  read_bad : (stop : ScriptStop) (n : ℕ) (bytes : List ℕ) (s : Traffic) (text : List ℕ) → stop ≢ AtEnd → Closes tells before after stop n bytes s kept → IsReadUpTo (status.BadLine (n + 1)) bytes (more_text s text)
+  read_bad : (stop : ScriptStop) (n : ℕ) (bytes : List ℕ) (s : Traffic) (text : List ℕ) → stop ≢ AtEnd → Closes tells settings before after stop n bytes s kept → IsReadUpTo (status.BadLine (n + 1)) bytes (more_text s text)
   read_bad stop n bytes s text apart c =
       (λ e. apart (sym (ap (λ (x : Script Event). x.stop) c.script_is) ∙ e), ap (λ k. k + 1) (sym (ap (λ (x : Script Event). length x.events) c.script_is ∙ c.count)))
 
-  read_is : (is : LineOutcome) (n : ℕ) (s : Traffic) (text : List ℕ) → IsEnding is tells n s state before after → IsReadUpTo (status_by is n) (transcript s) (more_text s text)
+  read_is : (is : LineOutcome) (n : ℕ) (s : Traffic) (text : List ℕ) → IsEnding is tells settings n s state before after → IsReadUpTo (status_by is n) (transcript s) (more_text s text)
   read_is outcome.Continue n s text e = absurd e
   read_is outcome.LastLine n s text e = subst (λ b. (event_script b).stop ≡ AtEnd) (append-nil s.taken) (ap (λ (x : Script Event). x.stop) (e []).script_is)
   read_is outcome.BadLine n s text e = read_bad AtBad n (transcript s) s text bad_is_not_end (e (unwrap_or after.left []))
@@ -98,26 +100,26 @@ module _ (tells : Type 0) (before after : Outside) (state : GatewayState) where
 
   -- the bodies were given back with what they had
   module _ (told : tells) (bodies : ℕ → List ℕ) (back : (k : ℕ) → bodies k ≡ after.bodies k) (history : List ℕ) (are : AreHistories history kept) (s : Traffic) where
-    module _ (stop : ScriptStop) (n : ℕ) (bytes : List ℕ) (c : Closes tells before after stop n bytes s kept) where
+    module _ (stop : ScriptStop) (n : ℕ) (bytes : List ℕ) (c : Closes tells settings before after stop n bytes s kept) where
       abbrev operations : List Operation
       operations = operations_of no_links c.events
 
       abbrev come : WorldResult
-      come = operations_result (world_at_start before.bodies) operations (ahead_of s.outcomes)
+      come = operations_result (world_at_start settings before.bodies) operations (ahead_of s.outcomes)
 
       -- what comes of them
       leaves : LeavesWorld (outside_scene kept after) s.written false [] come
-      leaves = subst (λ os. LeavesWorld (outside_scene kept after) s.written false [] (operations_result (world_at_start before.bodies) operations (ahead_of os))) (append-nil s.outcomes)
-          (c.does.result told (world_at_start before.bodies) (start_is before) [] tt)
+      leaves = subst (λ os. LeavesWorld (outside_scene kept after) s.written false [] (operations_result (world_at_start settings before.bodies) operations (ahead_of os))) (append-nil s.outcomes)
+          (c.does.result told (world_at_start settings before.bodies) (start_is settings before) [] tt)
 
       bodies_are : (k : ℕ) → world_bodies come.world k ≡ bodies k
       bodies_are k = leaves.world.bodies k ∙ sym (back k)
 
       -- what comes of a script
       abbrev of_script : Script Event → RunOutput
-      of_script x = output_of (operations_result (world_at_start before.bodies) (operations_of no_links x.events) (ahead_of s.outcomes))
+      of_script x = output_of (operations_result (world_at_start settings before.bodies) (operations_of no_links x.events) (ahead_of s.outcomes))
 
-      whole_of : IsWhole before.bodies bytes false (more_text s history) bodies
+      whole_of : IsWhole settings before.bodies bytes false (more_text s history) bodies
       whole_of = record {
         text = ap (λ x. (of_script x).text) c.script_is ∙ ap (λ b. come.text ++ end_text b come.world) leaves.stop ∙ ap (λ x. x ++ end_texts come.world.opens) leaves.text_is ∙ ap (λ x. s.written ++ x) (sym (are come.world.opens leaves.world.opens));
         bodies = λ k. ap (λ x. (of_script x).bodies k) c.script_is ∙ bodies_are k;
@@ -129,7 +131,7 @@ module _ (tells : Type 0) (before after : Outside) (state : GatewayState) where
       }
 
       -- of the histories a front was written
-      short_of : (part : List ℕ) → IsPrefix part history → IsCutShort before.bodies bytes (more_text s part) bodies
+      short_of : (part : List ℕ) → IsPrefix part history → IsCutShort settings before.bodies bytes (more_text s part) bodies
       short_of part front =
           let place : CutPlace (event_script bytes).events = record {
             done = c.events;
@@ -153,20 +155,20 @@ module _ (tells : Type 0) (before after : Outside) (state : GatewayState) where
             }),
           )
 
-    whole : (is : LineOutcome) (n : ℕ) → IsLastOutcome is → IsEnding is tells n s state before after → IsRun (status_by is n) before.bodies (transcript s) (more_text s history) bodies
+    whole : (is : LineOutcome) (n : ℕ) → IsLastOutcome is → IsEnding is tells settings n s state before after → IsRun settings (status_by is n) before.bodies (transcript s) (more_text s history) bodies
     whole outcome.Continue n last e = absurd e
-    whole outcome.LastLine n last e = whole_of AtEnd n s.taken (subst (λ b. Closes tells before after AtEnd n b s kept) (append-nil s.taken) (e []))
+    whole outcome.LastLine n last e = whole_of AtEnd n s.taken (subst (λ b. Closes tells settings before after AtEnd n b s kept) (append-nil s.taken) (e []))
     whole outcome.BadLine n last e = whole_of AtBad n (transcript s) (e (unwrap_or after.left []))
-    whole outcome.InputEnded n last e = subst (λ b. IsRun (status.BadLine (n + 1)) before.bodies b (more_text s history) bodies) (taken_all s e.1) (whole_of AtOpen n s.taken e.0)
+    whole outcome.InputEnded n last e = subst (λ b. IsRun settings (status.BadLine (n + 1)) before.bodies b (more_text s history) bodies) (taken_all s e.1) (whole_of AtOpen n s.taken e.0)
     whole outcome.ReadFault n last e = whole_of AtOpen n s.taken e
     whole outcome.StoreFault n last e = absurd (last.no_store_fault refl)
     whole outcome.WriteFault n last e = absurd (last.no_write_fault refl)
     whole outcome.NoMemory n last e = absurd (last.no_refusal refl)
 
-    short_more : (stop : ScriptStop) (n : ℕ) (part : List ℕ) → Closes tells before after stop n (s.taken ++ []) s kept → IsPrefix part history → IsCutShort before.bodies s.taken (more_text s part) bodies
-    short_more stop n part c f = short_of stop n s.taken (subst (λ b. Closes tells before after stop n b s kept) (append-nil s.taken) c) part f
+    short_more : (stop : ScriptStop) (n : ℕ) (part : List ℕ) → Closes tells settings before after stop n (s.taken ++ []) s kept → IsPrefix part history → IsCutShort settings before.bodies s.taken (more_text s part) bodies
+    short_more stop n part c f = short_of stop n s.taken (subst (λ b. Closes tells settings before after stop n b s kept) (append-nil s.taken) c) part f
 
-    short : (is : LineOutcome) (n : ℕ) (part : List ℕ) → IsLastOutcome is → IsEnding is tells n s state before after → IsPrefix part history → IsCutShort before.bodies s.taken (more_text s part) bodies
+    short : (is : LineOutcome) (n : ℕ) (part : List ℕ) → IsLastOutcome is → IsEnding is tells settings n s state before after → IsPrefix part history → IsCutShort settings before.bodies s.taken (more_text s part) bodies
     short outcome.Continue n part last e f = absurd e
     short outcome.LastLine n part last e f = short_more AtEnd n part (e []) f
     short outcome.BadLine n part last e f = short_more AtBad n part (e []) f
@@ -177,10 +179,10 @@ module _ (tells : Type 0) (before after : Outside) (state : GatewayState) where
     short outcome.NoMemory n part last e f = absurd (last.no_refusal refl)
 
   module _ (told : tells) (bodies : ℕ → List ℕ) (back : (k : ℕ) → bodies k ≡ after.bodies k) (s : Traffic) where
-    stopped_back : IsWhole before.bodies s.taken true s after.bodies → IsWhole before.bodies s.taken true s bodies
+    stopped_back : IsWhole settings before.bodies s.taken true s after.bodies → IsWhole settings before.bodies s.taken true s bodies
     stopped_back w = record { text = w.text; bodies = λ k. w.bodies k ∙ sym (back k); stop = w.stop; used = w.used }
 
-    cut_back : IsCutShort before.bodies s.taken s after.bodies → IsCutShort before.bodies s.taken s bodies
+    cut_back : IsCutShort settings before.bodies s.taken s after.bodies → IsCutShort settings before.bodies s.taken s bodies
     cut_back (place, c) = (
       place,
       record {
@@ -195,10 +197,10 @@ module _ (tells : Type 0) (before after : Outside) (state : GatewayState) where
     )
 
     abbrev CutEnding : ℕ → LineOutcome → Type 0
-    CutEnding n x = IsEnding x tells n s state before after
+    CutEnding n x = IsEnding x tells settings n s state before after
 
     abbrev CutRun : ℕ → LineOutcome → Type 0
-    CutRun n x = IsRun (status_by x n) before.bodies (transcript s) s bodies
+    CutRun n x = IsRun settings (status_by x n) before.bodies (transcript s) s bodies
 
     cut_short : (is : LineOutcome) (n : ℕ) → IsCutOutcome is → CutEnding n is → CutRun n is
     cut_short is n (inl q) g = subst (CutRun n) (sym q) (stopped_back ((subst (CutEnding n) q g).0 told))
@@ -210,8 +212,8 @@ module _ (tells : Type 0) (before after : Outside) (state : GatewayState) where
 spoken_nothing : IsSpoken []
 spoken_nothing = record { desk = new_desk; text = []; histories = []; speaks = speaks_none new_desk; front = ([], refl) }
 
-module _ (tells : Type 0) (before after : Outside) (state : GatewayState) where
-  lines_speak : (is : LineOutcome) (n : ℕ) (s : Traffic) → IsLastOutcome is → IsEnding is tells n s state before after → Speaks new_desk state.kept.tracker.desk s.written
+module _ (tells : Type 0) (settings : Settings) (before after : Outside) (state : GatewayState) where
+  lines_speak : (is : LineOutcome) (n : ℕ) (s : Traffic) → IsLastOutcome is → IsEnding is tells settings n s state before after → Speaks new_desk state.kept.tracker.desk s.written
   lines_speak outcome.Continue n s last e = absurd e
   lines_speak outcome.LastLine n s last e = (e []).does.speaks
   lines_speak outcome.BadLine n s last e = (e []).does.speaks
@@ -221,7 +223,7 @@ module _ (tells : Type 0) (before after : Outside) (state : GatewayState) where
   lines_speak outcome.WriteFault n s last e = absurd (last.no_write_fault refl)
   lines_speak outcome.NoMemory n s last e = absurd (last.no_refusal refl)
 
-  spoken_front : (is : LineOutcome) (n : ℕ) (s : Traffic) → IsLastOutcome is → IsEnding is tells n s state before after
+  spoken_front : (is : LineOutcome) (n : ℕ) (s : Traffic) → IsLastOutcome is → IsEnding is tells settings n s state before after
       → (part : List ℕ) (histories : List (ℕ × History)) → IsPrefix part (histories_text histories) → IsSpoken (s.written ++ part)
   spoken_front is n s last e part histories front = record {
     desk = state.kept.tracker.desk;
@@ -234,10 +236,10 @@ module _ (tells : Type 0) (before after : Outside) (state : GatewayState) where
   spoken_of : (s : Traffic) → SpeaksFront new_desk s.written → IsSpoken s.written
   spoken_of s (desk, text, speaks, front) = record { desk = desk; text = text; histories = []; speaks = speaks; front = (front.0, append-nil text ∙ front.1) }
 
-  spoken_cut : (is : LineOutcome) (n : ℕ) (s : Traffic) → IsCutOutcome is → IsEnding is tells n s state before after → IsSpoken s.written
-  spoken_cut is n s (inl q) e = spoken_of s (subst (λ x. IsEnding x tells n s state before after) q e).1
-  spoken_cut is n s (inr (inl q)) e = spoken_of s (subst (λ x. IsEnding x tells n s state before after) q e).1
-  spoken_cut is n s (inr (inr q)) e = spoken_of s (subst (λ x. IsEnding x tells n s state before after) q e).1
+  spoken_cut : (is : LineOutcome) (n : ℕ) (s : Traffic) → IsCutOutcome is → IsEnding is tells settings n s state before after → IsSpoken s.written
+  spoken_cut is n s (inl q) e = spoken_of s (subst (λ x. IsEnding x tells settings n s state before after) q e).1
+  spoken_cut is n s (inr (inl q)) e = spoken_of s (subst (λ x. IsEnding x tells settings n s state before after) q e).1
+  spoken_cut is n s (inr (inr q)) e = spoken_of s (subst (λ x. IsEnding x tells settings n s state before after) q e).1
 
 -- the bodies are given back, and more was written
 
@@ -247,8 +249,8 @@ given_counted outcomes a cells n now f g =
     let fails = f.fails in
     record { calls = g.tally ∙ f.calls; fails = omega (arith, fails, k) }
 
-module _ (tells : Type 0) (is : LineOutcome) (n : ℕ) (state : GatewayState) (before : Outside) (left mid : Option (List ℕ)) (bodied bodies : ℕ → List ℕ) (m now : Counts)
-    (e : LinesEnd tells is n state before (record { left = left; held = mid; bodies = bodied; counts = total_counts state.kept.cells m }))
+module _ (tells : Type 0) (settings : Settings) (is : LineOutcome) (n : ℕ) (state : GatewayState) (before : Outside) (left mid : Option (List ℕ)) (bodied bodies : ℕ → List ℕ) (m now : Counts)
+    (e : LinesEnd tells settings is n state before (record { left = left; held = mid; bodies = bodied; counts = total_counts state.kept.cells m }))
     (back : GivesAllBack state.kept.cells m now) (bytes : tells → (k : ℕ) → bodies k ≡ bodied k) where
   abbrev lines_done : Outside
   lines_done = record { left = left; held = mid; bodies = bodied; counts = total_counts state.kept.cells m }
@@ -263,22 +265,22 @@ module _ (tells : Type 0) (is : LineOutcome) (n : ℕ) (state : GatewayState) (b
   moved held text w = record { reads = e.moves.reads; writes = Appends-trans before.held mid held _ _ e.moves.writes w; counts = counted }
 
   module _ (last : IsLastOutcome is) (text : List ℕ) (histories : List (ℕ × History)) (spelled : text ≡ histories_text histories) (are : AreHistories text state.kept) (held : Option (List ℕ)) where
-    pub runs_whole : Appends mid held text → Runs tells (status_by is n) before (ended held)
+    pub runs_whole : Appends mid held text → Runs tells settings (status_by is n) before (ended held)
     runs_whole w = record {
       traffic = more_text e.traffic text;
       moves = moved held text w;
-      spoken = spoken_front tells before lines_done state is n e.traffic last e.ending text histories ([], sym spelled ∙ sym (append-nil text));
-      read = read_is tells before lines_done state is n e.traffic text e.ending;
-      run = λ told. whole tells before lines_done state told bodies (bytes told) text are e.traffic is n last e.ending;
+      spoken = spoken_front tells settings before lines_done state is n e.traffic last e.ending text histories ([], sym spelled ∙ sym (append-nil text));
+      read = read_is tells settings before lines_done state is n e.traffic text e.ending;
+      run = λ told. whole tells settings before lines_done state told bodies (bytes told) text are e.traffic is n last e.ending;
     }
 
-    pub runs_short : AppendsPrefix mid held text → Runs tells status.WriteFault before (ended held)
+    pub runs_short : AppendsPrefix mid held text → Runs tells settings status.WriteFault before (ended held)
     runs_short w = record {
       traffic = more_text e.traffic w.0;
       moves = moved held w.0 w.1;
-      spoken = spoken_front tells before lines_done state is n e.traffic last e.ending w.0 histories (w.2.0, sym spelled ∙ w.2.1);
+      spoken = spoken_front tells settings before lines_done state is n e.traffic last e.ending w.0 histories (w.2.0, sym spelled ∙ w.2.1);
       read = tt;
-      run = λ told. short tells before lines_done state told bodies (bytes told) text are e.traffic is n w.0 last e.ending w.2;
+      run = λ told. short tells settings before lines_done state told bodies (bytes told) text are e.traffic is n w.0 last e.ending w.2;
     }
 
   abbrev CutRead : LineOutcome → Type 0
@@ -289,17 +291,41 @@ module _ (tells : Type 0) (is : LineOutcome) (n : ℕ) (state : GatewayState) (b
   cut_read x (inr (inl q)) = subst CutRead (sym q) tt
   cut_read x (inr (inr q)) = subst CutRead (sym q) tt
 
-  pub runs_cut : IsCutOutcome is → Runs tells (status_by is n) before (ended mid)
+  pub runs_cut : IsCutOutcome is → Runs tells settings (status_by is n) before (ended mid)
   runs_cut which = record {
     traffic = e.traffic;
     moves = record { reads = e.moves.reads; writes = e.moves.writes; counts = counted };
-    spoken = spoken_cut tells before lines_done state is n e.traffic which e.ending;
+    spoken = spoken_cut tells settings before lines_done state is n e.traffic which e.ending;
     read = cut_read is which;
-    run = λ told. cut_short tells before lines_done state told bodies (bytes told) e.traffic is n which e.ending;
+    run = λ told. cut_short tells settings before lines_done state told bodies (bytes told) e.traffic is n which e.ending;
   }
 
-pub runs_usage : (tells : Type 0) (o : Outside) → Runs tells status.Usage o o
-runs_usage tells o = record { traffic = no_traffic; moves = Moves-nil o; spoken = spoken_nothing; read = refl; run = λ told k. refl }
+pub runs_usage : (tells : Type 0) (settings : Settings) (o : Outside) → Runs tells settings status.Usage o o
+runs_usage tells settings o = record { traffic = no_traffic; moves = Moves-nil o; spoken = spoken_nothing; read = refl; run = λ told k. refl }
+
+pub runs_refused : (tells : Type 0) (settings : Settings) (fault : ConfigFault) (o : Outside) → Runs tells settings (status.BadConfig fault) o o
+runs_refused tells settings fault o = record { traffic = no_traffic; moves = Moves-nil o; spoken = spoken_nothing; read = refl; run = λ told k. refl }
+
+-- nothing was done, for want of memory
+pub runs_starved : (tells : Type 0) (settings : Settings) (o : Outside) → Runs tells settings status.NoMemory o o
+runs_starved tells settings o = record {
+  traffic = no_traffic;
+  moves = Moves-nil o;
+  spoken = spoken_nothing;
+  read = tt;
+  run = λ told. (
+    record { done = []; last = []; rest = []; split = refl; few = omega arith; begun = []; unbegun = []; last_is = refl },
+    record {
+      all_written = ([], refl);
+      histories = [];
+      histories_are = inl refl;
+      front = ([], refl);
+      bodies = λ k. refl;
+      running = refl;
+      used = record { left = refl; matched = refl };
+    },
+  );
+}
 
 pub status_read : (is : LineOutcome) (n : ℕ) → status_by is n ≡ status.ReadFault → is ≡ outcome.ReadFault
 status_read outcome.Continue n e = cc
@@ -341,24 +367,36 @@ status_usage outcome.StoreFault n e = cc
 status_usage outcome.WriteFault n e = cc
 status_usage outcome.NoMemory n e = cc
 
+pub status_config : (is : LineOutcome) (n : ℕ) (fault : ConfigFault) → status_by is n ≢ status.BadConfig fault
+status_config outcome.Continue n fault e = cc
+status_config outcome.LastLine n fault e = cc
+status_config outcome.BadLine n fault e = cc
+status_config outcome.InputEnded n fault e = cc
+status_config outcome.ReadFault n fault e = cc
+status_config outcome.StoreFault n fault e = cc
+status_config outcome.WriteFault n fault e = cc
+status_config outcome.NoMemory n fault e = cc
+
 -- a run in which nothing failed
-pub completes : (tells : Type 0) (result : Status) (before after : Outside) → Runs tells result before after → result ≢ status.Usage → (result ≡ status.ReadFault → ⊥) → (result ≡ status.WriteFault → ⊥) → (result ≡ status.StoreFault → ⊥)
+pub completes : (tells : Type 0) (settings : Settings) (result : Status) (before after : Outside) → Runs tells settings result before after → result ≢ status.Usage → ((fault : ConfigFault) → result ≢ status.BadConfig fault) → (result ≡ status.ReadFault → ⊥) → (result ≡ status.WriteFault → ⊥) → (result ≡ status.StoreFault → ⊥)
     → IsComplete before.left result
-completes tells result before after r usage read write store = go before.left after.left r.traffic.taken r.moves.reads result r.read usage read write store
+completes tells settings result before after r usage config read write store = go before.left after.left r.traffic.taken r.moves.reads result r.read usage config read write store
   where
-    go : (left left' : Option (List ℕ)) (taken : List ℕ) → Consumes left left' taken → (x : Status) → IsReadUpTo x (taken ++ unwrap_or left' []) r.traffic → x ≢ status.Usage → (x ≡ status.ReadFault → ⊥) → (x ≡ status.WriteFault → ⊥) → (x ≡ status.StoreFault → ⊥) → IsComplete left x
-    go None left' taken c status.Done run u a b d = tt
-    go None left' taken c status.NoMemory run u a b d = tt
-    go None left' taken c (status.BadLine n) run u a b d = tt
-    go None left' taken c status.Usage run u a b d = u refl
-    go None left' taken c status.ReadFault run u a b d = a refl
-    go None left' taken c status.WriteFault run u a b d = b refl
-    go None left' taken c status.StoreFault run u a b d = d refl
-    go (Some xs) None taken c x run u a b d = absurd c
-    go (Some xs) (Some ys) taken c status.Done run u a b d = tt
-    go (Some xs) (Some ys) taken c status.NoMemory run u a b d = tt
-    go (Some xs) (Some ys) taken c (status.BadLine n) run u a b d = λ e. run.0 (ap (λ t. (event_script t).stop) (sym c) ∙ e)
-    go (Some xs) (Some ys) taken c status.Usage run u a b d = u refl
-    go (Some xs) (Some ys) taken c status.ReadFault run u a b d = a refl
-    go (Some xs) (Some ys) taken c status.WriteFault run u a b d = b refl
-    go (Some xs) (Some ys) taken c status.StoreFault run u a b d = d refl
+    go : (left left' : Option (List ℕ)) (taken : List ℕ) → Consumes left left' taken → (x : Status) → IsReadUpTo x (taken ++ unwrap_or left' []) r.traffic → x ≢ status.Usage → ((fault : ConfigFault) → x ≢ status.BadConfig fault) → (x ≡ status.ReadFault → ⊥) → (x ≡ status.WriteFault → ⊥) → (x ≡ status.StoreFault → ⊥) → IsComplete left x
+    go None left' taken c status.Done run u f a b d = tt
+    go None left' taken c status.NoMemory run u f a b d = tt
+    go None left' taken c (status.BadLine n) run u f a b d = tt
+    go None left' taken c status.Usage run u f a b d = u refl
+    go None left' taken c (status.BadConfig fault) run u f a b d = f fault refl
+    go None left' taken c status.ReadFault run u f a b d = a refl
+    go None left' taken c status.WriteFault run u f a b d = b refl
+    go None left' taken c status.StoreFault run u f a b d = d refl
+    go (Some xs) None taken c x run u f a b d = absurd c
+    go (Some xs) (Some ys) taken c status.Done run u f a b d = tt
+    go (Some xs) (Some ys) taken c status.NoMemory run u f a b d = tt
+    go (Some xs) (Some ys) taken c (status.BadLine n) run u f a b d = λ e. run.0 (ap (λ t. (event_script t).stop) (sym c) ∙ e)
+    go (Some xs) (Some ys) taken c status.Usage run u f a b d = u refl
+    go (Some xs) (Some ys) taken c (status.BadConfig fault) run u f a b d = f fault refl
+    go (Some xs) (Some ys) taken c status.ReadFault run u f a b d = a refl
+    go (Some xs) (Some ys) taken c status.WriteFault run u f a b d = b refl
+    go (Some xs) (Some ys) taken c status.StoreFault run u f a b d = d refl

@@ -11,6 +11,7 @@ use Rattle.transcript.proofs.ScriptLaws.{script_takes, script_long, script_late,
 use Rattle.gw_outside.specs.Writing.{IsPrefix}
 use Rattle.file_calls.specs.Counts.{Counts}
 use Rattle.replay.specs.Grammar.{LinesBefore, line_reading, reading_of, grammar_line, lines_after}
+use Rattle.gw_config.specs.Settings.{Settings}
 use Rattle.replay.specs.Headline.{Outside, Traffic, Moves, CutPlace, no_traffic, event_script, ahead_of, IsWhole, IsCutShort}
 use Rattle.gateway.specs.declared.link.Link.{Link}
 use Rattle.gateway.specs.Links.{Links, AreLinks, no_links, arrival, operations_of, links_after, link_in}
@@ -156,10 +157,10 @@ refused_line tells links here there left left' held bodies counts taken r same =
 -- all lines
 
 -- a run that a failed call ended
-whole_stopped : (bodies : ℕ → List ℕ) (bytes : List ℕ) (traffic : Traffic) (after : ℕ → List ℕ)
-    → EndsAt after traffic.written true (operations_result (world_at_start bodies) (operations_of no_links (event_script bytes).events) (ahead_of traffic.outcomes)) → IsWhole bodies bytes true traffic after
-whole_stopped bodies bytes traffic after e =
-    let s : WorldResult = operations_result (world_at_start bodies) (operations_of no_links (event_script bytes).events) (ahead_of traffic.outcomes) in
+whole_stopped : (settings : Settings) (bodies : ℕ → List ℕ) (bytes : List ℕ) (traffic : Traffic) (after : ℕ → List ℕ)
+    → EndsAt after traffic.written true (operations_result (world_at_start settings bodies) (operations_of no_links (event_script bytes).events) (ahead_of traffic.outcomes)) → IsWhole settings bodies bytes true traffic after
+whole_stopped settings bodies bytes traffic after e =
+    let s : WorldResult = operations_result (world_at_start settings bodies) (operations_of no_links (event_script bytes).events) (ahead_of traffic.outcomes) in
     record {
       text = ap (λ b. s.text ++ end_text b s.world) e.stop ∙ append-nil s.text ∙ e.text_is;
       bodies = e.bodies_are;
@@ -167,21 +168,21 @@ whole_stopped bodies bytes traffic after e =
       used = record { left = e.left; matched = e.matched };
     }
 
-pub reached_start : (tells : Type 0) (o : Outside) → Reached tells beginning o o
-reached_start tells o = record {
+pub reached_start : (tells : Type 0) (settings : Settings) (o : Outside) → Reached tells settings (beginning settings) o o
+reached_start tells settings o = record {
   traffic = no_traffic;
   moves = Moves-nil o;
   events = [];
   count = refl;
   links_are = λ conn. refl;
   reads = λ more. refl;
-  does = done_none tells (outside_scene initial_state o);
+  does = done_none tells (outside_scene (initial_state settings) o);
 }
 
-pub start_is : (o : Outside) → IsWorld (outside_scene initial_state o) (world_at_start o.bodies)
-start_is o = record { names = refl; opens = tt; bodies = λ k. refl; desk = refl }
+pub start_is : (settings : Settings) (o : Outside) → IsWorld (outside_scene (initial_state settings) o) (world_at_start settings o.bodies)
+start_is settings o = record { names = refl; opens = tt; bodies = λ k. refl; desk = refl; settings = refl }
 
-module _ (tells : Type 0) (a b c : Outside) (here there : Place) (r : Reached tells here a b) (t : Traffic) where
+module _ (tells : Type 0) (settings : Settings) (a b c : Outside) (here there : Place) (r : Reached tells settings here a b) (t : Traffic) where
   -- the transcript with what was taken behind the first lines
   abbrev taken_all : List ℕ
   taken_all = r.traffic.taken ++ t.taken
@@ -195,7 +196,7 @@ module _ (tells : Type 0) (a b c : Outside) (here there : Place) (r : Reached te
       let later = script_at there (there.pending ++ more) in
       script_behind more ∙ ap (events_then r.events) (e more) ∙ ap (λ xs. let s : Script Event = record { events = xs; stop = later.stop } in s) (sym (append_assoc r.events (event ∷ []) later.events))
 
-  pub reached_with : LineDone tells (links_after no_links r.events) here there b c t t.written → there.before ≡ here.before + 1 → Moves b c t → Reached tells there a c
+  pub reached_with : LineDone tells (links_after no_links r.events) here there b c t t.written → there.before ≡ here.before + 1 → Moves b c t → Reached tells settings there a c
   reached_with d next m =
       let count = r.count in
       record {
@@ -205,26 +206,26 @@ module _ (tells : Type 0) (a b c : Outside) (here there : Place) (r : Reached te
         count = length-append r.events (d.event ∷ []) ∙ omega (arith, count, next);
         links_are = subst (AreLinks there.state.links) (sym (links_append no_links r.events (d.event ∷ []))) d.links_are;
         reads = script_event d.event d.reads;
-        does = subst (λ xs. HasDone tells xs (outside_scene initial_state a) (place_scene there c) (r.traffic.outcomes ++ t.outcomes) (r.traffic.written ++ t.written)) (sym (event_behind no_links r.events d.event))
-            (done_then tells (operations_of no_links r.events) (arrival (links_after no_links r.events) d.event).operations (outside_scene initial_state a) (place_scene here b) (place_scene there c)
+        does = subst (λ xs. HasDone tells xs (outside_scene (initial_state settings) a) (place_scene there c) (r.traffic.outcomes ++ t.outcomes) (r.traffic.written ++ t.written)) (sym (event_behind no_links r.events d.event))
+            (done_then tells (operations_of no_links r.events) (arrival (links_after no_links r.events) d.event).operations (outside_scene (initial_state settings) a) (place_scene here b) (place_scene there c)
             r.traffic.outcomes t.outcomes r.traffic.written t.written r.does d.does);
       }
 
   -- the bytes that are left stop at once, and nothing more went out
   closes : (more : List ℕ) (stop : ScriptStop) → Rests here there b c t → script_at here ((here.pending ++ t.taken) ++ more) ≡ empty_script stop
-      → Closes tells a c stop here.before (taken_all ++ more) (both r.traffic t) there.state.kept
+      → Closes tells settings a c stop here.before (taken_all ++ more) (both r.traffic t) there.state.kept
   closes more stop rest e = record {
     events = r.events;
     script_is = script_behind more ∙ ap (events_then r.events) e ∙ ap (λ xs. let s : Script Event = record { events = xs; stop = stop } in s) (append-nil r.events);
     count = r.count;
-    does = done_still tells (operations_of no_links r.events) (outside_scene initial_state a) here.state.kept there.state.kept b c r.traffic.outcomes (r.traffic.outcomes ++ t.outcomes) r.traffic.written (r.traffic.written ++ t.written)
+    does = done_still tells (operations_of no_links r.events) (outside_scene (initial_state settings) a) here.state.kept there.state.kept b c r.traffic.outcomes (r.traffic.outcomes ++ t.outcomes) r.traffic.written (r.traffic.written ++ t.written)
         (ap (λ (x : GatewayState). x.kept) rest.state) rest.bodies (ap (λ xs. r.traffic.outcomes ++ xs) rest.outcomes ∙ append-nil r.traffic.outcomes) (ap (λ xs. r.traffic.written ++ xs) rest.written ∙ append-nil r.traffic.written) r.does;
   }
 
-  closes_open : here.before < max_lines → Rests here there b c t → IsPart (here.pending ++ t.taken) → Closes tells a c AtOpen here.before taken_all (both r.traffic t) there.state.kept
+  closes_open : here.before < max_lines → Rests here there b c t → IsPart (here.pending ++ t.taken) → Closes tells settings a c AtOpen here.before taken_all (both r.traffic t) there.state.kept
   closes_open h rest part =
       let e = script_open line_reading here.grammar here.before (here.pending ++ t.taken) h part in
-      subst (λ x. Closes tells a c AtOpen here.before x (both r.traffic t) there.state.kept) (append-nil taken_all)
+      subst (λ x. Closes tells settings a c AtOpen here.before x (both r.traffic t) there.state.kept) (append-nil taken_all)
       (closes [] AtOpen rest (ap (script_at here) (append-nil (here.pending ++ t.taken)) ∙ e))
 
   -- what was written of it, too
@@ -243,7 +244,7 @@ module _ (tells : Type 0) (a b c : Outside) (here there : Place) (r : Reached te
   first_operations = operations_of no_links r.events
 
   abbrev start : World
-  start = world_at_start a.bodies
+  start = world_at_start settings a.bodies
 
   abbrev all_outcomes : List Outcome
   all_outcomes = r.traffic.outcomes ++ t.outcomes
@@ -262,13 +263,13 @@ module _ (tells : Type 0) (a b c : Outside) (here there : Place) (r : Reached te
 
   module _ (told : tells) (after : IsAfter here.state.kept.tracker.noted t.outcomes) where
     first_leaves : LeavesWorld (place_scene here b) r.traffic.written false t.outcomes first_result
-    first_leaves = r.does.result told start (start_is a) t.outcomes after
+    first_leaves = r.does.result told start (start_is settings a) t.outcomes after
 
     abbrev behind : List Operation → WorldResult
     behind xs = operations_result first_result.world xs (ahead_at here.state.kept.tracker.noted t.outcomes)
 
     -- a failed call ended the run
-    stopped : LineStopped tells (links_after no_links r.events) here there b c t → IsWhole a.bodies taken_all true (both r.traffic t) c.bodies
+    stopped : LineStopped tells (links_after no_links r.events) here there b c t → IsWhole settings a.bodies taken_all true (both r.traffic t) c.bodies
     stopped s =
         let later = (script_at there (there.pending ++ [])).events in
         let arrived = arrival (links_after no_links r.events) s.event in
@@ -278,13 +279,13 @@ module _ (tells : Type 0) (a b c : Outside) (here there : Place) (r : Reached te
         let all = ends_behind start first_operations (arrived.operations ++ operations_of arrived.links later) (ahead_of all_outcomes) (place_scene here b) r.traffic.written [] true c.bodies t.outcomes first_leaves on in
         let operations : operations_of no_links (event_script taken_all).events ≡ first_operations ++ (arrived.operations ++ operations_of arrived.links later)
         = ap (operations_of no_links) (events_behind s.event s.reads ∙ append_assoc r.events (s.event ∷ []) later) ∙ events_append no_links r.events (s.event ∷ later) in
-        whole_stopped a.bodies taken_all (both r.traffic t) c.bodies
+        whole_stopped settings a.bodies taken_all (both r.traffic t) c.bodies
         (subst (λ xs. EndsAt c.bodies (r.traffic.written ++ t.written) true (operations_result start xs (ahead_of all_outcomes))) (sym operations)
         (subst (λ x. EndsAt c.bodies (r.traffic.written ++ x) true (operations_result start (first_operations ++ (arrived.operations ++ operations_of arrived.links later)) (ahead_of all_outcomes))) (sym s.silent) all))
 
     -- of what stands behind the first events a front was done
     cut_of : (last rest : List Event) (begun unbegun : List Operation) (text : List ℕ) → (event_script taken_all).events ≡ (r.events ++ last) ++ rest → length last ≤ 1
-        → operations_of (links_after no_links r.events) last ≡ begun ++ unbegun → IsPrefix t.written text → EndsAt c.bodies text false (behind begun) → IsCutShort a.bodies taken_all (both r.traffic t) c.bodies
+        → operations_of (links_after no_links r.events) last ≡ begun ++ unbegun → IsPrefix t.written text → EndsAt c.bodies text false (behind begun) → IsCutShort settings a.bodies taken_all (both r.traffic t) c.bodies
     cut_of last rest begun unbegun text split few last_is front e =
         let place : CutPlace (event_script taken_all).events = record { done = r.events; last = last; rest = rest; split = split; few = few; begun = begun; unbegun = unbegun; last_is = last_is } in
         let all = ends_behind start first_operations begun (ahead_of all_outcomes) (place_scene here b) r.traffic.written text false c.bodies t.outcomes first_leaves e in
@@ -302,7 +303,7 @@ module _ (tells : Type 0) (a b c : Outside) (here there : Place) (r : Reached te
         )
 
     -- memory was refused in an event
-    cut_in : LineCut tells (links_after no_links r.events) here there b c t → IsCutShort a.bodies taken_all (both r.traffic t) c.bodies
+    cut_in : LineCut tells (links_after no_links r.events) here there b c t → IsCutShort settings a.bodies taken_all (both r.traffic t) c.bodies
     cut_in s =
         let arrived = arrival (links_after no_links r.events) s.event in
         let ended : EndsAt c.bodies s.cuts.text false (behind s.cuts.done)
@@ -311,13 +312,13 @@ module _ (tells : Type 0) (a b c : Outside) (here there : Place) (r : Reached te
         (append-nil arrived.operations ∙ s.cuts.split) (s.cuts.text, ap (λ x. x ++ s.cuts.text) (sym s.silent)) ended
 
     -- or before it
-    cut_before : Rests here there b c t → IsCutShort a.bodies taken_all (both r.traffic t) c.bodies
+    cut_before : Rests here there b c t → IsCutShort settings a.bodies taken_all (both r.traffic t) c.bodies
     cut_before s =
         cut_of [] (script_at here ((here.pending ++ t.taken) ++ [])).events [] [] [] events_here (omega arith) refl ([], sym s.written ∙ sym (append-nil t.written))
         (record { text_is = refl; bodies_are = λ k. first_leaves.world.bodies k ∙ sym (s.bodies k); stop = refl; left = s.outcomes; matched = refl })
 
     -- the text of an event wasn't written whole
-    cut_writing : (text : List ℕ) → LineDone tells (links_after no_links r.events) here there b c t text → IsPrefix t.written text → IsCutShort a.bodies taken_all (both r.traffic t) c.bodies
+    cut_writing : (text : List ℕ) → LineDone tells (links_after no_links r.events) here there b c t text → IsPrefix t.written text → IsCutShort settings a.bodies taken_all (both r.traffic t) c.bodies
     cut_writing text d front =
         let arrived = arrival (links_after no_links r.events) d.event in
         let l = d.does.result told first_result.world first_leaves.world [] tt in
@@ -340,20 +341,20 @@ module _ (tells : Type 0) (a b c : Outside) (here there : Place) (r : Reached te
   ending outcome.NoMemory n h (inl s) = (λ told. cut_before told (subst (IsAfter here.state.kept.tracker.noted) (sym s.outcomes) tt) s, silent_front s.written)
   ending outcome.NoMemory n h (inr s) = (λ told. cut_in told (subst (IsAfter here.state.kept.tracker.noted) s.outcomes_are s.cuts.after) s, silent_front s.silent)
 
-pub reached_more : (tells : Type 0) (here there : Place) (a b c : Outside) → (r : Reached tells here a b) → LineStep tells outcome.Continue (links_after no_links r.events) here there b c → Reached tells there a c
-reached_more tells here there a b c r t = reached_with tells a b c here there r t.traffic t.outcome_is.1 t.outcome_is.0 t.moves
+pub reached_more : (tells : Type 0) (settings : Settings) (here there : Place) (a b c : Outside) → (r : Reached tells settings here a b) → LineStep tells outcome.Continue (links_after no_links r.events) here there b c → Reached tells settings there a c
+reached_more tells settings here there a b c r t = reached_with tells settings a b c here there r t.traffic t.outcome_is.1 t.outcome_is.0 t.moves
 
-pub reached_end : (tells : Type 0) (is : LineOutcome) (here there : Place) (a b c : Outside) → is ≢ outcome.Continue → here.before < max_lines → (r : Reached tells here a b)
-    → LineStep tells is (links_after no_links r.events) here there b c → LinesEnd tells is here.before there.state a c
-reached_end tells is here there a b c n h r t = record {
+pub reached_end : (tells : Type 0) (settings : Settings) (is : LineOutcome) (here there : Place) (a b c : Outside) → is ≢ outcome.Continue → here.before < max_lines → (r : Reached tells settings here a b)
+    → LineStep tells is (links_after no_links r.events) here there b c → LinesEnd tells settings is here.before there.state a c
+reached_end tells settings is here there a b c n h r t = record {
   traffic = both r.traffic t.traffic;
   moves = Moves-trans a b c r.traffic t.traffic r.moves t.moves;
-  ending = ending tells a b c here there r t.traffic is n h t.outcome_is;
+  ending = ending tells settings a b c here there r t.traffic is n h t.outcome_is;
 }
 
-pub reached_late : (tells : Type 0) (here : Place) (a b : Outside) → here.before ≡ max_lines → Reached tells here a b → LinesEnd tells outcome.BadLine here.before here.state a b
-reached_late tells here a b h r = record {
+pub reached_late : (tells : Type 0) (settings : Settings) (here : Place) (a b : Outside) → here.before ≡ max_lines → Reached tells settings here a b → LinesEnd tells settings outcome.BadLine here.before here.state a b
+reached_late tells settings here a b h r = record {
   traffic = both r.traffic no_traffic;
   moves = Moves-trans a b b r.traffic no_traffic r.moves (Moves-nil b);
-  ending = λ more. closes tells a b b here here r no_traffic more AtBad (rests here here b b [] refl (λ k. refl)) (script_late line_reading here.grammar here.before _ (omega (arith, h)));
+  ending = λ more. closes tells settings a b b here here r no_traffic more AtBad (rests here here b b [] refl (λ k. refl)) (script_late line_reading here.grammar here.before _ (omega (arith, h)));
 }

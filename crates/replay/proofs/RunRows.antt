@@ -24,6 +24,7 @@ use Rattle.gateway.specs.Links.{arrival}
 use Rattle.replay.specs.Grammar.{is_name, grammar_line}
 use Rattle.nfs_procs.specs.World.{next}
 use Rattle.file_calls.specs.Part.{next_part}
+use Rattle.gw_config.specs.Settings.{default_settings}
 use Rattle.replay.specs.Headline.{Traffic, IsReadUpTo, IsRun}
 use Rattle.replay.specs.declared.status.Status.TheVariants as status
 
@@ -40,14 +41,14 @@ abbrev pub Writes : List ℕ → List Outcome → List ℕ → List (List ℕ) �
 unfolding hex_on_literals md5 digest_bytes hash_after compress rounds block_words digits encode_with word long bool_text opaque_text u32_at u64_at opaque_at finish_at handle_text ids_text write_step read_step with_accepted write_judgement with_use with_ready_sent hearing_step pump_step_with pump_step turn_step job_step history_of number_of parts script_of front_from front records_from records accepted_text rpc_mismatch_text denial_text sender_of call_word_at call_opaque_at call_body_at call_of args_of nfs_arms write_at read_at stable_at reply_bytes hex_line closed_line arrival context_text range_text ended_line is_name grammar_line next next_part
 Writes transcript outcomes text held =
     let traffic : Traffic = record { taken = transcript; written = text; outcomes = outcomes } in
-    IsReadUpTo status.Done transcript traffic × (bodies : ℕ → List ℕ) × IsRun status.Done no_bodies transcript traffic bodies × HoldBodies 4 held bodies
+    IsReadUpTo status.Done transcript traffic × (bodies : ℕ → List ℕ) × IsRun default_settings status.Done no_bodies transcript traffic bodies × HoldBodies 4 held bodies
 
 -- one over empty bodies that stops at its line of this number, which is no line of the grammar, and writes nothing
 abbrev pub StopsAt : ℕ → List ℕ → Type 0
 unfolding hex_on_literals parts script_of is_name grammar_line number_of next next_part arrival digits
 StopsAt line transcript =
     let traffic : Traffic = record { taken = transcript; written = []; outcomes = [] } in
-    IsReadUpTo (status.BadLine line) transcript traffic × (bodies : ℕ → List ℕ) × IsRun (status.BadLine line) no_bodies transcript traffic bodies
+    IsReadUpTo (status.BadLine line) transcript traffic × (bodies : ℕ → List ℕ) × IsRun default_settings (status.BadLine line) no_bodies transcript traffic bodies
 
 bad_is_not_end : AtBad ≢ AtEnd
 bad_is_not_end e = cc

@@ -4,6 +4,7 @@ use Rattle.std.specs.Io.KnownBytes.{Consumes, Appends}
 use Rattle.gw_model.specs.Ahead.{Outcomes, Outcome}
 use Rattle.gw_outside.specs.Writing.{IsPrefix}
 use Rattle.transcript.specs.Script.{Script, script as script_by, AtEnd, AtOpen}
+use Rattle.gw_config.specs.Settings.{Settings}
 use Rattle.file_calls.specs.Counts.{Counts, IsCounted}
 use Rattle.nfs_procs.specs.World.{Operation, WorldResult, RunOutput, world_at_start, world_bodies, end_texts, operations_result, run_output}
 use Rattle.gateway.specs.Links.{no_links, operations_of, links_after}
@@ -45,20 +46,20 @@ pub record IsUsedUp (t : Outcomes) : Type 0 where
 abbrev pub event_script : List ℕ → Script Event
 event_script bytes = script_by line_reading first_line bytes
 
--- all that comes of a transcript, over bodies that hold these bytes at first
-abbrev pub output : (ℕ → List ℕ) → List ℕ → List Outcome → RunOutput
-output bodies bytes outcomes = run_output (world_at_start bodies) (operations_of no_links (event_script bytes).events) (ahead_of outcomes)
+-- all that comes of a transcript under these settings, over bodies that hold these bytes at first
+abbrev pub output : Settings → (ℕ → List ℕ) → List ℕ → List Outcome → RunOutput
+output settings bodies bytes outcomes = run_output (world_at_start settings bodies) (operations_of no_links (event_script bytes).events) (ahead_of outcomes)
 
 -- Just this went out, the bodies hold what the definition says, and the outcomes are used up.
-pub record IsWhole (before : ℕ → List ℕ) (bytes : List ℕ) (stopped : Bool) (traffic : Traffic) (after : ℕ → List ℕ) : Type 0 where
-  pub text : (output before bytes traffic.outcomes).text ≡ traffic.written
-  pub bodies : (k : ℕ) → (output before bytes traffic.outcomes).bodies k ≡ after k
-  pub stop : (output before bytes traffic.outcomes).stopped ≡ stopped
-  pub used : IsUsedUp (output before bytes traffic.outcomes).ahead
+pub record IsWhole (settings : Settings) (before : ℕ → List ℕ) (bytes : List ℕ) (stopped : Bool) (traffic : Traffic) (after : ℕ → List ℕ) : Type 0 where
+  pub text : (output settings before bytes traffic.outcomes).text ≡ traffic.written
+  pub bodies : (k : ℕ) → (output settings before bytes traffic.outcomes).bodies k ≡ after k
+  pub stop : (output settings before bytes traffic.outcomes).stopped ≡ stopped
+  pub used : IsUsedUp (output settings before bytes traffic.outcomes).ahead
 
 -- what operations of a new world come to
-abbrev pub result_of : (ℕ → List ℕ) → List Operation → List Outcome → WorldResult
-result_of bodies operations outcomes = operations_result (world_at_start bodies) operations (ahead_of outcomes)
+abbrev pub result_of : Settings → (ℕ → List ℕ) → List Operation → List Outcome → WorldResult
+result_of settings bodies operations outcomes = operations_result (world_at_start settings bodies) operations (ahead_of outcomes)
 
 -- Where a run was cut short: some first events were done whole, of at most one more a front of its operations was done, and
 -- the histories were begun only where all events were done.
@@ -87,11 +88,11 @@ pub record IsCutAt {events : List Event} (place : CutPlace events) (whole begun 
   pub running : begun.stopped ≡ false
   pub used : IsUsedUp begun.ahead
 
-abbrev pub IsCutShort : (ℕ → List ℕ) → List ℕ → Traffic → (ℕ → List ℕ) → Type 0
-IsCutShort before bytes traffic after =
+abbrev pub IsCutShort : Settings → (ℕ → List ℕ) → List ℕ → Traffic → (ℕ → List ℕ) → Type 0
+IsCutShort settings before bytes traffic after =
     (place : CutPlace (event_script bytes).events)
-    × IsCutAt place (result_of before (operations_of no_links place.done) traffic.outcomes)
-    (result_of before (operations_of no_links place.done ++ place.begun) traffic.outcomes) traffic.written after
+    × IsCutAt place (result_of settings before (operations_of no_links place.done) traffic.outcomes)
+    (result_of settings before (operations_of no_links place.done ++ place.begun) traffic.outcomes) traffic.written after
 
 abbrev pub no_traffic : Traffic
 no_traffic = record { taken = []; written = []; outcomes = [] }
@@ -102,27 +103,29 @@ IsReadUpTo status.Done whole traffic = (event_script traffic.taken).stop ≡ AtE
 IsReadUpTo (status.BadLine n) whole traffic = ((event_script whole).stop ≢ AtEnd) × (n ≡ length (event_script whole).events + 1)
 IsReadUpTo status.ReadFault whole traffic = (event_script traffic.taken).stop ≡ AtOpen
 IsReadUpTo status.Usage whole traffic = traffic ≡ no_traffic
+IsReadUpTo (status.BadConfig fault) whole traffic = traffic ≡ no_traffic
 IsReadUpTo _ whole traffic = Unit {0}
 
 -- What went in and out, by the status.
-abbrev pub IsRun : Status → (ℕ → List ℕ) → List ℕ → Traffic → (ℕ → List ℕ) → Type 0
-IsRun status.Done before whole traffic after = IsWhole before traffic.taken false traffic after
-IsRun (status.BadLine n) before whole traffic after = IsWhole before whole false traffic after
-IsRun status.ReadFault before whole traffic after = IsWhole before traffic.taken false traffic after
-IsRun status.StoreFault before whole traffic after = IsWhole before traffic.taken true traffic after
-IsRun status.WriteFault before whole traffic after = IsCutShort before traffic.taken traffic after
-IsRun status.NoMemory before whole traffic after = IsCutShort before traffic.taken traffic after
-IsRun status.Usage before whole traffic after = (k : ℕ) → after k ≡ before k
+abbrev pub IsRun : Settings → Status → (ℕ → List ℕ) → List ℕ → Traffic → (ℕ → List ℕ) → Type 0
+IsRun settings status.Done before whole traffic after = IsWhole settings before traffic.taken false traffic after
+IsRun settings (status.BadLine n) before whole traffic after = IsWhole settings before whole false traffic after
+IsRun settings status.ReadFault before whole traffic after = IsWhole settings before traffic.taken false traffic after
+IsRun settings status.StoreFault before whole traffic after = IsWhole settings before traffic.taken true traffic after
+IsRun settings status.WriteFault before whole traffic after = IsCutShort settings before traffic.taken traffic after
+IsRun settings status.NoMemory before whole traffic after = IsCutShort settings before traffic.taken traffic after
+IsRun settings status.Usage before whole traffic after = (k : ℕ) → after k ≡ before k
+IsRun settings (status.BadConfig fault) before whole traffic after = (k : ℕ) → after k ≡ before k
 
 -- The headline: bytes were read and written, and where the store tells what it holds, they and the bodies are the run of the
--- transcript over what the bodies held. A source that tells nothing counts as one that has nothing left. Of a store that tells
+-- transcript under the settings, over what the bodies held. A source that tells nothing counts as one that has nothing left. Of a store that tells
 -- nothing it is said what it counts, how far the transcript was read, and that a request got at most one reply.
-pub record Runs (tells : Type 0) (status : Status) (before after : Outside) : Type 0 where
+pub record Runs (tells : Type 0) (settings : Settings) (status : Status) (before after : Outside) : Type 0 where
   pub traffic : Traffic
   pub moves : Moves before after traffic
   pub spoken : IsSpoken traffic.written
   pub read : IsReadUpTo status (traffic.taken ++ unwrap_or after.left []) traffic
-  pub run : tells → IsRun status before.bodies (traffic.taken ++ unwrap_or after.left []) traffic after.bodies
+  pub run : tells → IsRun settings status before.bodies (traffic.taken ++ unwrap_or after.left []) traffic after.bodies
 
 -- how a run may end in which nothing failed, but for the words
 abbrev pub IsDoneOr : Type 0 → Status → Type 0

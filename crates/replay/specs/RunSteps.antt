@@ -7,6 +7,7 @@ use Rattle.gw_outside.specs.Causes.{Rose}
 use Rattle.gw_outside.specs.Writing.{IsPrefix, AppendsPrefix}
 use Rattle.tickets.specs.Desk.{DeskState, new_desk}
 use Rattle.transcript.specs.Script.{Script, ScriptStop, AtEnd, AtBad, AtOpen, empty_script, then_script, script_from, IsPart}
+use Rattle.gw_config.specs.Settings.{Settings, default_settings}
 use Rattle.file_calls.specs.OneReply.{Speaks}
 use Rattle.file_calls.specs.Counts.{IsCounted}
 use Rattle.file_calls.specs.Outside.{IsAfter, ahead_at}
@@ -37,6 +38,10 @@ script_at here bytes = script_from line_reading here.grammar here.before bytes
 abbrev pub outside_of : {C F : Type 0} → Ghosts C F → ProgramState → Option (List ℕ) → Option (List ℕ) → C → Outside
 outside_of g kept left held c =
     let s = world_scene_of g kept c in record { left = left; held = held; bodies = s.bodies; counts = s.counts }
+
+-- so where no file is out
+abbrev pub outside_home : {C F : Type 0} → Ghosts C F → Option (List ℕ) → Option (List ℕ) → C → Outside
+outside_home g left held c = outside_of g (initial_state default_settings) left held c
 
 -- the count of faults rose, with what the files count that are out
 abbrev pub HasRisen : {C F : Type 0} → Ghosts C F → (k k' : ProgramState) → (c c' : C) → Type 0
@@ -137,52 +142,52 @@ pub record LineStep (tells : Type 0) (is : LineOutcome) (links : Links) (here th
 
 -- the run so far, from the beginning
 
-abbrev pub beginning : Place
-beginning = record { state = idle_gateway; grammar = first_line; before = 0; pending = [] }
+abbrev pub beginning : Settings → Place
+beginning settings = record { state = idle_gateway settings; grammar = first_line; before = 0; pending = [] }
 
 -- these events, and then a script
 abbrev pub events_then : List Event → Script Event → Script Event
 events_then events script = record { events = events ++ script.events; stop = script.stop }
 
 -- Just these events were done, and whatever bytes come later, the transcript goes on with them from here.
-pub record Reached (tells : Type 0) (there : Place) (before after : Outside) : Type 0 where
+pub record Reached (tells : Type 0) (settings : Settings) (there : Place) (before after : Outside) : Type 0 where
   pub traffic : Traffic
   pub moves : Moves before after traffic
   pub events : List Event
   pub count : length events ≡ there.before
   pub links_are : AreLinks there.state.links (links_after no_links events)
   pub reads : (more : List ℕ) → event_script (traffic.taken ++ more) ≡ events_then events (script_at there (there.pending ++ more))
-  pub does : HasDone tells (operations_of no_links events) (outside_scene initial_state before) (place_scene there after) traffic.outcomes traffic.written
+  pub does : HasDone tells (operations_of no_links events) (outside_scene (initial_state settings) before) (place_scene there after) traffic.outcomes traffic.written
 
 -- all went out but the histories
-pub record Closes (tells : Type 0) (before after : Outside) (stop : ScriptStop) (lines : ℕ) (bytes : List ℕ) (traffic : Traffic) (kept : ProgramState) : Type 0 where
+pub record Closes (tells : Type 0) (settings : Settings) (before after : Outside) (stop : ScriptStop) (lines : ℕ) (bytes : List ℕ) (traffic : Traffic) (kept : ProgramState) : Type 0 where
   pub events : List Event
   pub script_is : event_script bytes ≡ record { events = events; stop = stop }
   pub count : length events ≡ lines
-  pub does : HasDone tells (operations_of no_links events) (outside_scene initial_state before) (outside_scene kept after) traffic.outcomes traffic.written
+  pub does : HasDone tells (operations_of no_links events) (outside_scene (initial_state settings) before) (outside_scene kept after) traffic.outcomes traffic.written
 
 -- a front of what calls of a desk gave was written
 abbrev pub SpeaksFront : DeskState → List ℕ → Type 0
 SpeaksFront d written = (desk : DeskState) × (text : List ℕ) × Speaks d desk text × IsPrefix written text
 
 -- all lines, and what the program keeps then
-abbrev pub IsEnding : LineOutcome → Type 0 → ℕ → Traffic → GatewayState → Outside → Outside → Type 0
-IsEnding outcome.Continue tells lines traffic state before after = ⊥
-IsEnding outcome.LastLine tells lines traffic state before after = (more : List ℕ) → Closes tells before after AtEnd lines (traffic.taken ++ more) traffic state.kept
-IsEnding outcome.BadLine tells lines traffic state before after = (more : List ℕ) → Closes tells before after AtBad lines (traffic.taken ++ more) traffic state.kept
-IsEnding outcome.InputEnded tells lines traffic state before after = Closes tells before after AtOpen lines traffic.taken traffic state.kept × IsAtEnd after.left
-IsEnding outcome.ReadFault tells lines traffic state before after = Closes tells before after AtOpen lines traffic.taken traffic state.kept
-IsEnding outcome.StoreFault tells lines traffic state before after =
-    (tells → IsWhole before.bodies traffic.taken true traffic after.bodies) × SpeaksFront new_desk traffic.written
-IsEnding outcome.WriteFault tells lines traffic state before after =
-    (tells → IsCutShort before.bodies traffic.taken traffic after.bodies) × SpeaksFront new_desk traffic.written
-IsEnding outcome.NoMemory tells lines traffic state before after =
-    (tells → IsCutShort before.bodies traffic.taken traffic after.bodies) × SpeaksFront new_desk traffic.written
+abbrev pub IsEnding : LineOutcome → Type 0 → Settings → ℕ → Traffic → GatewayState → Outside → Outside → Type 0
+IsEnding outcome.Continue tells settings lines traffic state before after = ⊥
+IsEnding outcome.LastLine tells settings lines traffic state before after = (more : List ℕ) → Closes tells settings before after AtEnd lines (traffic.taken ++ more) traffic state.kept
+IsEnding outcome.BadLine tells settings lines traffic state before after = (more : List ℕ) → Closes tells settings before after AtBad lines (traffic.taken ++ more) traffic state.kept
+IsEnding outcome.InputEnded tells settings lines traffic state before after = Closes tells settings before after AtOpen lines traffic.taken traffic state.kept × IsAtEnd after.left
+IsEnding outcome.ReadFault tells settings lines traffic state before after = Closes tells settings before after AtOpen lines traffic.taken traffic state.kept
+IsEnding outcome.StoreFault tells settings lines traffic state before after =
+    (tells → IsWhole settings before.bodies traffic.taken true traffic after.bodies) × SpeaksFront new_desk traffic.written
+IsEnding outcome.WriteFault tells settings lines traffic state before after =
+    (tells → IsCutShort settings before.bodies traffic.taken traffic after.bodies) × SpeaksFront new_desk traffic.written
+IsEnding outcome.NoMemory tells settings lines traffic state before after =
+    (tells → IsCutShort settings before.bodies traffic.taken traffic after.bodies) × SpeaksFront new_desk traffic.written
 
-pub record LinesEnd (tells : Type 0) (is : LineOutcome) (lines : ℕ) (state : GatewayState) (before after : Outside) : Type 0 where
+pub record LinesEnd (tells : Type 0) (settings : Settings) (is : LineOutcome) (lines : ℕ) (state : GatewayState) (before after : Outside) : Type 0 where
   pub traffic : Traffic
   pub moves : Moves before after traffic
-  pub ending : IsEnding is tells lines traffic state before after
+  pub ending : IsEnding is tells settings lines traffic state before after
 
 -- the status, where the histories were written whole
 abbrev pub status_by : LineOutcome → ℕ → Status

@@ -1,20 +1,24 @@
 // The lines of a transcript, one after another, and what is left at their end.
 ghost use Rattle.std.specs.Prelude.{◌≡◌, ◌≢◌, ◌<◌, ◌≤◌, ◌+◌, ◌-◌, ◌^◌, ℕ, List, Option, None, []};
 ghost use Rattle.gw_outside.specs.Causes.{Rose};
+ghost use Rattle.gw_config.specs.Ranges.{AreInRange};
+ghost use Rattle.gw_config.specs.Seen.{settings_in};
+ghost use Rattle.gw_config.specs.declared.fault.ConfigFault.{ConfigFault};
 ghost use Rattle.append_store.specs.State.{IsAway};
 ghost use Rattle.transcript.specs.Script.{max_lines};
 ghost use Rattle.file_calls.specs.Outside.{body_id};
-ghost use Rattle.nfs_procs.specs.Contexts.{AreBodiesPlaced, AreBodiesSafe, LossesStay, ObjectsStay, StaysThere, file_count, initial_state, store_state};
+ghost use Rattle.nfs_procs.specs.Contexts.{AreBodiesPlaced, AreBodiesSafe, LossesStay, ObjectsStay, StaysThere, file_count, store_state};
 ghost use Rattle.gateway.specs.Links.{Links, AreLinks};
 ghost use Rattle.gateway.specs.Steps.{idle_gateway};
 ghost use Rattle.replay.specs.Headline.{Runs};
-ghost use Rattle.replay.specs.RunSteps.{HasRisen, IsEventOutcome, LineStep, LinesEnd, outside_of, status_by};
+ghost use Rattle.replay.specs.RunSteps.{HasRisen, IsEventOutcome, LineStep, LinesEnd, outside_home, outside_of, status_by};
 
 use crate::grammar::{GrammarState, Line, line_of};
 use crate::status::Status;
 use append_store::Cluster;
 use file_calls::StepResult;
 use gateway::{Event, Gateway};
+use gw_config::Config;
 use gw_outside::{Sink, Source, WriteFault, write_all};
 use std::alloc::Global;
 use transcript::{Lines, MAX_LINES, Next};
@@ -142,10 +146,10 @@ fn all_lines<S: Source, K: Sink, C: Cluster>(
     sink: &mut K,
     cluster: &mut C,
 ) -> Ending
-    requires fresh { gateway.old ≡ idle_gateway }
+    requires fresh { gateway.old ≡ idle_gateway gateway.old.kept.tracker.settings }
     requires placed { AreBodiesPlaced C.File.tells 0 (C.at cluster.old) [] }
-    ensures moves { LinesEnd C.File.tells result.outcome result.lines gateway.new
-        (outside_of C.Cluster initial_state (S.left source.old) (K.held sink.old) cluster.old)
+    ensures moves { LinesEnd C.File.tells gateway.old.kept.tracker.settings result.outcome result.lines gateway.new
+        (outside_home C.Cluster (S.left source.old) (K.held sink.old) cluster.old)
         (outside_of C.Cluster gateway.new.kept (S.left source.new) (K.held sink.new) cluster.new) }
     ensures few { result.lines ≤ max_lines }
     ensures safe { AreBodiesSafe C.File.tells (C.at cluster.new) gateway.new.kept.cells }
@@ -156,7 +160,7 @@ fn all_lines<S: Source, K: Sink, C: Cluster>(
     ensures read_cause { result.outcome ≡ LineOutcome.ReadFault → Rose (S.count source.old) (S.count source.new) }
     ensures write_cause { result.outcome ≡ LineOutcome.WriteFault → Rose (K.count sink.old) (K.count sink.new) }
     ensures store_cause { result.outcome ≡ LineOutcome.StoreFault
-        → HasRisen C.Cluster initial_state gateway.new.kept cluster.old cluster.new }
+        → HasRisen C.Cluster gateway.old.kept gateway.new.kept cluster.old cluster.new }
 {
     let mut grammar = GrammarState::new(alloc);
     let mut lines = Lines::new(alloc);
@@ -218,20 +222,22 @@ impl Sink for Nowhere {
     }
 }
 
-/// Replays the transcript that the source hands out over the store, and writes what the sequential definition says to the
-/// sink. It returns for every source, one without end too, and takes memory.
+/// Replays the transcript that the source hands out over the store under the settings, and writes what the sequential
+/// definition says to the sink. It returns for every source, one without end too, and takes memory.
 pub fn replay<S: Source, K: Sink, C: Cluster>(
     alloc: Global,
+    config: Config,
     source: &mut S,
     sink: &mut K,
     cluster: &mut C,
 ) -> Status
+    requires in_range { AreInRange (settings_in config) }
     // No body is out.
     requires safe { C.File.tells → (k : ℕ) → IsAway (C.at cluster.old (body_id k)) → ⊥ }
     // What was read, written and stored, by the status.
-    ensures run { Runs C.File.tells result
-        (outside_of C.Cluster initial_state (S.left source.old) (K.held sink.old) cluster.old)
-        (outside_of C.Cluster initial_state (S.left source.new) (K.held sink.new) cluster.new) }
+    ensures run { Runs C.File.tells (settings_in config) result
+        (outside_home C.Cluster (S.left source.old) (K.held sink.old) cluster.old)
+        (outside_home C.Cluster (S.left source.new) (K.held sink.new) cluster.new) }
     // No body is out afterwards.
     ensures home { C.File.tells → (k : ℕ) → IsAway (C.at cluster.new (body_id k)) → ⊥ }
     // No other object is changed, and no losses rise of an object that was there.
@@ -242,8 +248,9 @@ pub fn replay<S: Source, K: Sink, C: Cluster>(
     ensures write_cause { result ≡ Status.WriteFault → Rose (K.count sink.old) (K.count sink.new) }
     ensures store_cause { result ≡ Status.StoreFault → Rose (C.count cluster.old) (C.count cluster.new) }
     ensures not_usage { result ≢ Status.Usage }
+    ensures not_config { (fault : ConfigFault) → result ≢ Status.BadConfig fault }
 {
-    let mut gateway = Gateway::new(alloc);
+    let mut gateway = Gateway::new(alloc, config);
     let ending = all_lines(alloc, &mut gateway, source, sink, cluster);
     match ending.outcome {
         LineOutcome::StoreFault | LineOutcome::WriteFault | LineOutcome::NoMemory => {

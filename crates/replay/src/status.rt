@@ -1,7 +1,8 @@
 // How a run of the program ends.
+use gw_config::ConfigFault;
 
 /// How a command ended. Each has an exit code.
-#[derive(Clone, Copy, Debug, PartialEq, Eq)]
+#[derive(Debug, Drop)]
 pub enum Status {
     /// The transcript was read up to its `end` line.
     Done,
@@ -17,4 +18,6 @@ pub enum Status {
     BadLine(u64),
     /// The store failed in the `file` line.
     StoreFault,
+    /// The settings are refused.
+    BadConfig(ConfigFault),
 }
