@@ -7,6 +7,7 @@ ghost use Rattle.nfs_procs.specs.Contexts.{file_count, AreBodiesPlaced, AreBodie
 use super::*;
 use append_store::{Cluster, MemCluster};
 use file_calls::StepResult;
+use gw_config::Config;
 use gw_model::ObjectId;
 use gw_outside::MemSink;
 use std::alloc::{AllocError, Global};
@@ -88,7 +89,8 @@ fn with_file<C: Cluster>(alloc: Global, cluster: &mut C) -> Result<Gateway<C>, F
     ensures placed { IfOk result (λ g. AreBodiesPlaced C.File.tells (file_count g.kept) (C.at cluster.new) g.kept.cells) }
     ensures event { IfOk result (λ g. g.kept.tracker.noted.event ≤ 1) }
 {
-    let mut gateway = Gateway::new(alloc);
+    let config = Config::from_toml(alloc, "").map_err(|_| "settings")?;
+    let mut gateway = Gateway::new(alloc, config);
     text_of(&mut gateway, Event::MakeFile(Piece::new(b"data")), cluster)?;
     Ok(gateway)
 }
