@@ -314,7 +314,7 @@ runs_starved tells settings o = record {
   spoken = spoken_nothing;
   read = tt;
   run = λ told. (
-    record { done = []; last = []; rest = []; split = refl; few = omega arith; begun = []; unbegun = []; last_is = refl },
+    record { done = []; last = []; rest = (event_script []).events; split = refl; few = omega arith; begun = []; unbegun = []; last_is = refl },
     record {
       all_written = ([], refl);
       histories = [];

@@ -328,7 +328,7 @@ module _ (tells : Type 0) (settings : Settings) (a b c : Outside) (here there : 
         cut_of (d.event ∷ []) (script_at there (there.pending ++ [])).events arrived.operations [] text (events_behind d.event d.reads) (omega arith) refl front
         (subst (λ os. EndsAt c.bodies text false (operations_result first_result.world arrived.operations (ahead_at here.state.kept.tracker.noted os))) (append-nil t.outcomes) ended)
 
-  ending : (is : LineOutcome) → is ≢ outcome.Continue → here.before < max_lines → IsLineOutcome is tells (links_after no_links r.events) here there b c t → IsEnding is tells here.before (both r.traffic t) there.state a c
+  ending : (is : LineOutcome) → is ≢ outcome.Continue → here.before < max_lines → IsLineOutcome is tells (links_after no_links r.events) here there b c t → IsEnding is tells settings here.before (both r.traffic t) there.state a c
   ending outcome.Continue n h m = absurd (n refl)
   ending outcome.LastLine n h m = λ more. closes more AtEnd m.0 (m.1 more)
   ending outcome.BadLine n h m = λ more. closes more AtBad m.0 (m.1 more)

@@ -7,7 +7,7 @@ ghost use Rattle.gw_config.specs.declared.fault.ConfigFault.{ConfigFault};
 ghost use Rattle.append_store.specs.State.{IsAway};
 ghost use Rattle.transcript.specs.Script.{max_lines};
 ghost use Rattle.file_calls.specs.Outside.{body_id};
-ghost use Rattle.nfs_procs.specs.Contexts.{AreBodiesPlaced, AreBodiesSafe, LossesStay, ObjectsStay, StaysThere, file_count, store_state};
+ghost use Rattle.nfs_procs.specs.Contexts.{AreBodiesPlaced, AreBodiesSafe, LossesStay, ObjectsStay, StaysThere, file_count, initial_state, store_state};
 ghost use Rattle.gateway.specs.Links.{Links, AreLinks};
 ghost use Rattle.gateway.specs.Steps.{idle_gateway};
 ghost use Rattle.replay.specs.Headline.{Runs};
@@ -160,7 +160,7 @@ fn all_lines<S: Source, K: Sink, C: Cluster>(
     ensures read_cause { result.outcome ≡ LineOutcome.ReadFault → Rose (S.count source.old) (S.count source.new) }
     ensures write_cause { result.outcome ≡ LineOutcome.WriteFault → Rose (K.count sink.old) (K.count sink.new) }
     ensures store_cause { result.outcome ≡ LineOutcome.StoreFault
-        → HasRisen C.Cluster gateway.old.kept gateway.new.kept cluster.old cluster.new }
+        → HasRisen C.Cluster (initial_state gateway.old.kept.tracker.settings) gateway.new.kept cluster.old cluster.new }
 {
     let mut grammar = GrammarState::new(alloc);
     let mut lines = Lines::new(alloc);
