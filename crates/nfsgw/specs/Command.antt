@@ -36,7 +36,7 @@ settings_text [] = []
 settings_text (word ∷ settings) = joined_lines settings
 
 -- what that text is as a configuration
-abbrev pub words_configuration : List (List ℕ) → Result Settings ConfigRefusal
+unfoldable pub words_configuration : List (List ℕ) → Result Settings ConfigRefusal
 words_configuration words = configuration (parse_document (settings_text words))
 
 -- its settings, and the defaults where it is refused
@@ -46,6 +46,11 @@ settings_or_defaults (Err refusal) = default_settings
 
 abbrev pub words_settings : List (List ℕ) → Settings
 words_settings words = settings_or_defaults (words_configuration words)
+
+-- how a run ends whose settings are refused for this reason
+abbrev pub refusal_of : ConfigFault → Status
+refusal_of fault.Memory = status.NoMemory
+refusal_of f = status.BadConfig f
 
 -- it is accepted
 abbrev pub IsAccepted : Result Settings ConfigRefusal → Type 0

@@ -6,7 +6,7 @@ ghost use Rattle.file_calls.specs.Outside.{body_id};
 ghost use Rattle.nfs_procs.specs.Contexts.{LossesStay, ObjectsStay, store_state};
 ghost use Rattle.replay.specs.Headline.{IsComplete, Runs};
 ghost use Rattle.replay.specs.RunSteps.{outside_home};
-ghost use Rattle.nfsgw.specs.Command.{IsAccepted, IsJudged, is_replay, texts, words_configuration, words_settings};
+ghost use Rattle.nfsgw.specs.Command.{IsAccepted, IsJudged, is_replay, refusal_of, texts, words_configuration, words_settings};
 
 use crate::words::{is_replay, read_settings};
 use append_store::Cluster;
@@ -14,6 +14,16 @@ use gw_config::ConfigFault;
 use gw_outside::{Sink, Source};
 use replay::{Status, replay};
 use std::alloc::Global;
+
+// How a run ends whose settings are refused for this reason.
+fn refusal(fault: ConfigFault) -> Status
+    ensures { result ≡ refusal_of fault }
+{
+    match fault {
+        ConfigFault::Memory => Status::NoMemory,
+        fault => Status::BadConfig(fault),
+    }
+}
 
 /// Runs the command that the words name; they don't include the program's name.
 ///
@@ -57,7 +67,6 @@ pub fn run_command<S: Source, K: Sink, C: Cluster>(
     }
     match read_settings(alloc, words) {
         Ok(config) => replay(alloc, config, source, sink, cluster),
-        Err(ConfigFault::Memory) => Status::NoMemory,
-        Err(fault) => Status::BadConfig(fault),
+        Err(fault) => refusal(fault),
     }
 }

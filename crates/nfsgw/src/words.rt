@@ -67,6 +67,7 @@ fn settings_text(alloc: Global, words: &[String]) -> Result<String, AllocError>
 }
 
 /// The settings in the words behind the first, which are the lines of a document of TOML. Takes memory.
+#[tactic(auto, unfolding(crate::specs::Command::words_configuration))]
 pub fn read_settings(alloc: Global, words: &[String]) -> Result<Config, ConfigFault>
     ensures accepted { IfOk result (λ config. words_configuration (texts words.now) ≡ Ok (settings_in config)) }
     ensures in_range { IfOk result (λ config. AreInRange (settings_in config)) }
