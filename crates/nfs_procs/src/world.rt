@@ -519,7 +519,12 @@ impl<C: Cluster> World<C> {
             → IsRequestOf (target_by_state self.now.tracker.settings self.now.names self.now.cells (Serve conn message)) conn e.xid) }
         ensures goes_on { OnErr result (ends_connection message ≡ false) }
     {
-        match read_request(self.alloc, self.tracker.config(), self.file_count(), message) {
+        match read_request(
+            self.alloc,
+            self.tracker.config(),
+            self.file_count(),
+            message,
+        ) {
             Ok(request) => self.admit_request(request),
             Err(refused) => Err(refused),
         }
