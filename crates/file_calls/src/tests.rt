@@ -32,7 +32,10 @@ const GAVE: &str =
 fn unset(alloc: Global) -> Result<Config, Fail>
     ensures in_range { IfOk result (λ c. AreInRange (settings_in c)) }
 {
-    Ok(Config::from_toml(alloc, "").map_err(|_| "settings")?)
+    match Config::from_toml(alloc, "") {
+        Ok(config) => Ok(config),
+        Err(_) => Err("settings".into()),
+    }
 }
 
 // Creates the body in a store where it isn't.

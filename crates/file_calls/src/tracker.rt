@@ -48,7 +48,7 @@ impl Model for RequestTracker {
 }
 
 impl RequestTracker {
-    /// Nobody waits, and nothing was noted.
+    /// Nobody waits, and nothing was noted. The settings are in their ranges, as `Config::from_toml` gives them.
     pub fn new(alloc: Global, config: Config) -> RequestTracker
         requires in_range { AreInRange (settings_in config) }
         ensures { result ≡ new_tracker (settings_in config) }

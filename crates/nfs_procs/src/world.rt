@@ -61,7 +61,8 @@ impl<C: Cluster> Model for World<C> {
 }
 
 impl<C: Cluster> World<C> {
-    /// No file is in the tree, nobody waits, and nothing was noted.
+    /// No file is in the tree, nobody waits, and nothing was noted. The settings are in their ranges, as `Config::from_toml`
+    /// gives them.
     pub fn new(alloc: Global, config: Config) -> World<C>
         requires in_range { AreInRange (settings_in config) }
         ensures { result ≡ initial_state (settings_in config) }
