@@ -12,7 +12,6 @@ use Rattle.file_calls.specs.Acts.{WriteFile}
 use Rattle.file_requests.specs.Targets.{Target, OnFile, IsRequestOf, message_target, reply_target}
 use Rattle.nfs_procs.specs.World.{Operation, CreateNamed, Serve, entry_at, may_open, opening_target, creation_target, target_by_state}
 use Rattle.nfs_procs.specs.Contexts.{AllSame, AreBoth}
-use Rattle.file_requests.specs.declared.request.Request.TheVariants as request
 use Rattle.nfs_procs.proofs.ContextMaps.{same_found}
 
 module _ {V W : Type 0} (R : V → W → Type 0) where
