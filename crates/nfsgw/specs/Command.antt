@@ -1,5 +1,5 @@
 -- The words of the program's command, and the settings in them.
-use Rattle.std.specs.Prelude.{◌≡◌, ◌≢◌, ℕ, List, [], ◌∷◌, ◌++◌, map, codes, bytes_eq, Bool, true, false, not, ◌&&◌, ◌==◌, Result, Ok, Err, String, string_bytes}
+use Rattle.std.specs.Prelude.{◌≢◌, ℕ, List, [], ◌∷◌, ◌++◌, map, codes, bytes_eq, Bool, true, false, not, ◌&&◌, ◌==◌, Result, Ok, Err, String, string_bytes}
 use Rattle.std.specs.Global.{Global}
 use Rattle.std.specs.List.{list_all, flat_map}
 use Rattle.toml.specs.Parse.{parse_document}

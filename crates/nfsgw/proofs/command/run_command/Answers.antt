@@ -1,6 +1,4 @@
-use Rattle.std.proofs.Common.{◌≡◌, Ok, ◌∙◌, ap, subst, sym}
-use Rattle.nfsgw.specs.Command.{settings_or_defaults}
-use Rattle.replay.specs.Headline.{Runs}
+use Rattle.std.proofs.Common.{◌∙◌, sym}
 use Rattle.replay.specs.declared.status.Status.TheVariants as status
 use Rattle.replay.proofs.RunEnd.{runs_usage, completes}
 use Rattle.nfsgw.proofs.CommandRefusals.{runs_refusal, judged_refusal, ends_otherwise, completes_refusal}
