@@ -2,7 +2,7 @@
 use Rattle.std.specs.Prelude.{ℕ, ◌^◌, Bool, true, ◌&&◌, nat_lt, List, [], ◌∷◌, map}
 use Rattle.std.specs.List.{filter}
 use Rattle.gw_model.specs.File as model
-use Rattle.gw_model.specs.File.{ready_weight, settle_count, fetch_count, is_fetch, task_weight}
+use Rattle.gw_model.specs.File.{ready_weight, settle_count, is_fetch, task_weight}
 use Rattle.gw_model.specs.Admission.{struck_jobs}
 use Rattle.admit.specs.declared.job.Job.{Job}
 use Rattle.admit.specs.Jobs.{ready_job}
@@ -24,10 +24,6 @@ are_light (j ∷ js) = nat_lt (job_weight j) (2 ^ 64) && are_light js
 -- how many are Settles
 abbrev pub settles_in : List Job → ℕ
 settles_in js = settle_count (map ready_job js)
-
--- how many are Fetches
-abbrev pub fetches_in : List Job → ℕ
-fetches_in js = fetch_count (map ready_job js)
 
 abbrev pub fetches_of : List Job → List model.Job
 fetches_of js = filter is_fetch (map ready_job js)

@@ -1,65 +1,70 @@
-// The answers that a call left, one by one, and the history of what was given up.
-ghost use Rattle.std.specs.Prelude.{◌≡◌, ◌<◌, [], ◌∷◌, map, nat_lt, ◌||◌, vec_len};
-ghost use Rattle.std.specs.VecDeque.{deque_capacity};
+// What is given up: who is refused, and the lines of the history that are lost.
+ghost use Rattle.std.specs.Prelude.{◌≡◌, ◌+◌, ◌<◌, ◌≤◌, [], ◌∷◌, ◌++◌, map, nat_lt, ◌||◌, length, vec_len};
+ghost use Rattle.std.specs.VecDeque.{deque_len};
+ghost use Rattle.gw_model.specs.File.{NotWritten};
+ghost use Rattle.gw_model.specs.Admission.{answer_if, job_refusals, refusal};
 ghost use Rattle.gw_model.specs.Sides.{entries_lost_above, entries_lost_with};
+ghost use Rattle.job_line.specs.Views.{ticket_number};
+ghost use Rattle.tickets.specs.Answers.{ArePlain, answers_of};
 ghost use Rattle.admit.specs.Jobs.{ready_job};
-ghost use Rattle.admit.specs.Queue.{ready_jobs};
-ghost use Rattle.admit.specs.GivenUp.{entry_answers, waiting_answers, job_answers, Hands, RefusesJob};
+ghost use Rattle.admit.specs.Queue.{fetches_of, others_of, ready_jobs};
+ghost use Rattle.admit.specs.Sending.{queue_end, ready_of};
+ghost use Rattle.admit.specs.GivenUp.{entry_answers, waiting_answers};
 ghost use Rattle.admit.specs.Parts.{AreNumberedFrom, entries_lost_at, line_of};
 
 use crate::job::Job;
+use crate::line::Queue;
 use crate::phase::HistoryEntry;
+use crate::queue::fetches;
+use crate::refusals::Refusals;
 use commit_queue::Waiting;
-use range_map::{Entry, PendingMap};
+use gw_model::BASE_WEIGHT;
+use range_map::PendingMap;
 use std::alloc::Global;
 use std::collections::VecDeque;
-use tickets::Answer;
+use tickets::{Answer, Ticket};
 
-/// What was given up and wasn't answered yet, with the status that it is to be answered.
-#[derive(Drop)]
-pub struct GivenUp<M: PendingMap> {
-    pub status: u32,
-    pub entries: M,
-    pub waiting: Waiting,
-    pub jobs: VecDeque<Job>,
-    pub ghost refuses: { 0 < status },
+// The refusal of a WRITE, if an answer is owed.
+fn refused_write(ticket: Option<Ticket>, status: u32) -> Option<Answer>
+    requires { 0 < status }
+    ensures answer { answers_of result ≡ answer_if (ticket_number ticket) (NotWritten status) }
+    ensures plain { ArePlain result }
+{
+    Some(Answer::not_written(ticket?, status))
 }
 
-/// Takes entries out up to the first that has a ticket.
-pub fn next_entry<M: PendingMap>(leaving: &mut M, status: u32) -> Option<Answer>
-    requires { 0 < status }
-    ensures { Hands result (entry_answers status (M.entries leaving.old)) (entry_answers status (M.entries leaving.new)) }
+/// Entries are given up, and whoever waits for one is refused.
+#[tactic(auto, using(crate::proofs::GivenUpRefusals::refusal_steps))]
+pub fn refuse_entries<M: PendingMap>(left: &mut Refusals, mut entries: M, status: u32)
+    requires status { 0 < status }
+    requires room { length (M.entries entries) ≤ left.old.room }
+    ensures answers { left.new.answers ≡ left.old.answers ++ entry_answers status (M.entries entries) }
+    ensures room { left.old.room ≤ left.new.room + length (M.entries entries) }
 {
-    while let Some(entry) = leaving.pop_first() {
-        let Entry {
-            number: _,
-            offset: _,
-            count: _,
-            weight: _,
-            place: _,
-            stable: _,
-            ticket,
-        } = entry;
-        if let Some(ticket) = ticket {
-            return Some(Answer::not_written(ticket, status));
-        }
+    while let Some(entry) = entries.pop_first() {
+        left.push(refused_write(entry.ticket, status));
     }
-    None
 }
 
-/// Takes the first COMMIT out.
-pub fn next_waiting(leaving: &mut Waiting, status: u32) -> Option<Answer>
-    requires { 0 < status }
-    ensures { Hands result (waiting_answers status leaving.old.commits) (waiting_answers status leaving.new.commits) }
+/// The COMMITs that wait are refused.
+#[tactic(auto, using(crate::proofs::GivenUpRefusals::refusal_steps))]
+pub fn refuse_waiting(left: &mut Refusals, waiting: &mut Waiting, status: u32)
+    requires status { 0 < status }
+    requires room { length waiting.old.commits ≤ left.old.room }
+    ensures none { waiting.new.commits ≡ [] }
+    ensures answers { left.new.answers ≡ left.old.answers ++ waiting_answers status waiting.old.commits }
+    ensures room { left.old.room ≤ left.new.room + length waiting.old.commits }
 {
-    let ticket = leaving.take_first()?;
-    Some(Answer::not_committed(ticket, status))
+    while let Some(ticket) = waiting.take_first() {
+        left.push(Some(Answer::not_committed(ticket, status)));
+    }
 }
 
-// The answer to a job that is given up.
-fn refused(alloc: Global, job: Job, status: u32) -> Option<Answer>
+// The refusal of a job, if an answer is owed.
+fn refused_job(alloc: Global, job: Job, status: u32) -> Option<Answer>
     requires { 0 < status }
-    ensures { RefusesJob status result (ready_job job) }
+    ensures answer { answers_of result ≡ answer_if (ready_job job).ticket (refusal (ready_job job).task status) }
+    ensures plain { ArePlain result }
 {
     match job {
         Job::Put {
@@ -69,7 +74,7 @@ fn refused(alloc: Global, job: Job, status: u32) -> Option<Answer>
             asked: _asked,
             stable: _stable,
             ticket,
-        } => Some(Answer::not_written(ticket?, status)),
+        } => refused_write(ticket, status),
         Job::Compare {
             offset: _offset,
             bytes: _bytes,
@@ -85,19 +90,40 @@ fn refused(alloc: Global, job: Job, status: u32) -> Option<Answer>
     }
 }
 
-/// Takes jobs out up to the first that has a ticket.
-#[tactic(auto, using(crate::proofs::GivenUpLines::refusals))]
-pub fn next_job(alloc: Global, leaving: &mut VecDeque<Job>, status: u32) -> Option<Answer>
-    requires { 0 < status }
-    ensures hands { Hands result (job_answers status leaving.old.items) (job_answers status leaving.new.items) }
-    ensures capacity { deque_capacity leaving.new ≡ deque_capacity leaving.old }
+/// The jobs but for Fetches are refused, and the Fetches stay.
+pub fn refuse_jobs(left: &mut Refusals, jobs: &mut VecDeque<Job>, alloc: Global, status: u32)
+    requires status { 0 < status }
+    requires room { deque_len jobs.old ≤ left.old.room }
+    ensures stay { ready_jobs jobs.new.items ≡ fetches_of jobs.old.items }
+    ensures answers { left.new.answers ≡ left.old.answers ++ job_refusals status (others_of jobs.old.items) }
+    ensures room { deque_len jobs.new ≤ left.new.room }
 {
-    while let Some(job) = leaving.pop_front() {
-        if let Some(answer) = refused(alloc, job, status) {
-            return Some(answer);
+    for _ in 0..jobs.len() {
+        let Some(job) = jobs.pop_front() else {
+            unreachable!()
+        };
+        if fetches(&job) {
+            jobs.push_back_reserved(job);
+        } else {
+            left.push(refused_job(alloc, job, status));
         }
     }
-    None
+}
+
+/// The ready jobs but for Fetches are refused, and the Fetches stay.
+#[tactic(auto)]
+pub fn strike(queue: &mut Queue, left: &mut Refusals, alloc: Global, status: u32)
+    requires status { 0 < status }
+    requires room { deque_len queue.old.ready ≤ left.old.room }
+    ensures ready { ready_of queue.new ≡ fetches_of queue.old.ready.items }
+    ensures answers { left.new.answers ≡ left.old.answers ++ job_refusals status (others_of queue.old.ready.items) }
+    ensures room { deque_len queue.new.ready ≤ left.new.room }
+    ensures line { queue.new.line ≡ queue.old.line }
+    ensures end { queue_end queue.new ≤ queue_end queue.old }
+{
+    refuse_jobs(left, &mut queue.ready, alloc, status);
+    queue.weight = u128::from(BASE_WEIGHT) * queue.ready.len() as u128;
+    queue.settles = 0;
 }
 
 // Whether a line is lost where those above reach are.

@@ -9,25 +9,23 @@ ghost use Rattle.admit.specs.State.{cause_of};
 ghost use Rattle.admit.specs.Calls.{GivesUp, IsPumped, Pumps, left_state, news_of, pump_state, let_go_state, with_sent};
 
 use crate::admit::Admit;
+use crate::given_up::{refuse_entries, refuse_waiting, strike};
 use crate::laws::request_laws;
 use crate::phase::{Cause, Phase};
-use crate::queue::{send_all, strike};
+use crate::queue::send_all;
 use crate::request::{News, Pumped};
-use commit_queue::Waiting;
 use gw_model::join_hull;
 use gw_model::status::NFS3ERR_IO;
 use range_map::PendingMap;
-use std::mem;
 
 impl<M: PendingMap> Admit<M> {
     fn let_go(&mut self)
         requires none_left { self.old.left ≡ [] }
         ensures { self.new ≡ let_go_state self.old }
     {
-        self.given_up.status = NFS3ERR_IO;
-        self.given_up.entries = self.seen.take_pending(self.alloc);
-        self.given_up.waiting = mem::replace(&mut self.waiting, Waiting::new(self.alloc));
-        self.given_up.jobs.clear();
+        let pending = self.seen.take_pending(self.alloc);
+        refuse_entries(&mut self.left, pending, NFS3ERR_IO);
+        refuse_waiting(&mut self.left, &mut self.waiting, NFS3ERR_IO);
     }
 
     #[tactic(auto, unfolding(gw_model::specs::Sides::side_give_up_step))]
@@ -56,11 +54,9 @@ impl<M: PendingMap> Admit<M> {
         requires none_left { self.old.left ≡ [] }
         ensures { self.new ≡ left_state (side_stale_step (cause_of cause) self.old.side) self.old }
     {
-        self.given_up.status = NFS3ERR_IO;
-        self.given_up.entries = self.seen.take_pending(self.alloc);
-        self.given_up.waiting = mem::replace(&mut self.waiting, Waiting::new(self.alloc));
-        strike(&mut self.queue, &mut self.given_up.jobs);
-        self.seen.lose_jobs(&self.given_up.jobs);
+        self.let_go();
+        self.seen.lose_jobs(&self.queue.ready);
+        strike(&mut self.queue, &mut self.left, self.alloc, NFS3ERR_IO);
         self.phase = Phase::Stale(cause);
     }
 

@@ -257,8 +257,7 @@ impl<M: PendingMap> Seen<M> {
         ensures more { deque_len queue.new.ready ≡ deque_len queue.old.ready + 1 }
         ensures capacity { deque_capacity queue.new.ready ≡ deque_capacity queue.old.ready }
         ensures line { queue.new.line ≡ queue.old.line }
-        ensures fetches { queue.new.fetches ≡ queue.old.fetches }
-    {
+        {
         let Some(entry) = self.pending.pop_first() else {
             unreachable!()
         };
@@ -300,8 +299,7 @@ impl<M: PendingMap> Seen<M> {
         ensures len { load_with queue.new self.new ≡ load_with queue.old self.old }
         ensures capacity { deque_capacity queue.new.ready ≡ deque_capacity queue.old.ready }
         ensures line { queue.new.line ≡ queue.old.line }
-        ensures fetches { queue.new.fetches ≡ queue.old.fetches }
-    {
+        {
         while self.is_reached() {
             self.release_first(queue);
         }
@@ -318,7 +316,8 @@ impl<M: PendingMap> Seen<M> {
         ticket: Ticket,
     )
         requires { IsSomeAnd (same_range offset count self.old.pending) (λ w. (w.number ≡ number) × (w.ticket ≡ None)) }
-        ensures { self.new ≡ record self.old { pending = with_first_changed number (with_ticket stable ticket.number) self.old.pending } }
+        ensures ticket { self.new ≡ record self.old { pending = with_first_changed number (with_ticket stable ticket.number) self.old.pending } }
+        ensures many { length self.new.pending ≡ length self.old.pending }
     {
         self.pending.give_ticket(offset, number, stable, ticket);
     }

@@ -19,7 +19,7 @@ loop-ticket-preserved c =
       room = omega (arith, c.loop-ticket.invariant.room, some.2, c.push_job.ensures.len, c.push_job.ensures.capacity);
       line = c.push_job.ensures.line ∙ c.loop-ticket.invariant.line;
       next = c.push_job.ensures.end ∙ (omega arith ∙ c.loop-ticket.invariant.next);
-      fetches = search rules;
+      many = omega (arith, c.loop-ticket.invariant.many, some.2, c.push_job.ensures.len);
       jobs = ap (λ js. ready_jobs js ++ more) c.push_job.ensures.items ∙ ap (λ js. js ++ more) (map-append ready_job before one)
           ∙ append_assoc (ready_jobs before) (ready_jobs one) more ∙ ap (λ js. ready_jobs before ++ js) (sym some.0) ∙ c.loop-ticket.invariant.jobs;
       left = some.1 ∙ c.loop-ticket.invariant.left;

@@ -11,7 +11,7 @@ invariant-loop-ticket l = record {
   room : deque_len l.queue.ready + length l.waiting.commits ≤ deque_capacity l.queue.ready;
   line : l.queue.line ≡ l.fn.queue.line;
   next : end_after l.queue.line.input l.queue.ready.items ≡ end_after l.fn.queue.line.input l.fn.queue.ready.items;
-  fetches : l.queue.fetches ≡ l.fn.queue.fetches;
+  many : deque_len l.queue.ready + length l.waiting.commits ≡ deque_len l.fn.queue.ready + length l.fn.waiting.commits;
   jobs : ready_jobs l.queue.ready.items ++ settles_at l.reach (all_waiting l.waiting.commits) ≡ ready_jobs l.fn.queue.ready.items ++ settles_at l.reach (all_waiting l.fn.waiting.commits);
   left : waiting_above l.reach (all_waiting l.waiting.commits) ≡ waiting_above l.reach (all_waiting l.fn.waiting.commits);
 }

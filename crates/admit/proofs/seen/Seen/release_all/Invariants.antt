@@ -15,7 +15,6 @@ invariant-loop-self g l = record {
   len : deque_len l.queue.ready + length l.self.pending ≡ deque_len l.fn.queue.ready + length l.fn.self.pending;
   capacity : deque_capacity l.queue.ready ≡ deque_capacity l.fn.queue.ready;
   line : l.queue.line ≡ l.fn.queue.line;
-  fetches : l.queue.fetches ≡ l.fn.queue.fetches;
 }
 
 abbrev pub decreases-loop-self : goal.decreases-loop-self
