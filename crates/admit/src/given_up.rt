@@ -91,6 +91,7 @@ fn refused_job(alloc: Global, job: Job, status: u32) -> Option<Answer>
 }
 
 /// The jobs but for Fetches are refused, and the Fetches stay.
+#[tactic(auto, using(crate::proofs::GivenUpRefusals::refusal_steps))]
 pub fn refuse_jobs(left: &mut Refusals, jobs: &mut VecDeque<Job>, alloc: Global, status: u32)
     requires status { 0 < status }
     requires room { deque_len jobs.old ≤ left.old.room }
@@ -111,7 +112,7 @@ pub fn refuse_jobs(left: &mut Refusals, jobs: &mut VecDeque<Job>, alloc: Global,
 }
 
 /// The ready jobs but for Fetches are refused, and the Fetches stay.
-#[tactic(auto)]
+#[tactic(auto, using(crate::proofs::GivenUpRefusals::strike_steps))]
 pub fn strike(queue: &mut Queue, left: &mut Refusals, alloc: Global, status: u32)
     requires status { 0 < status }
     requires room { deque_len queue.old.ready ≤ left.old.room }
