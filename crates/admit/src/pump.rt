@@ -49,7 +49,7 @@ impl<M: PendingMap> Admit<M> {
         self.take_back(moment);
     }
 
-    #[tactic(auto, unfolding(gw_model::specs::Sides::side_stale_step))]
+    #[tactic(auto, using(crate::proofs::GivenUpLines::struck), unfolding(gw_model::specs::Sides::side_stale_step))]
     fn turn_stale(&mut self, cause: Cause)
         requires none_left { self.old.left ≡ [] }
         ensures { self.new ≡ left_state (side_stale_step (cause_of cause) self.old.side) self.old }
