@@ -257,7 +257,7 @@ impl<M: PendingMap> Seen<M> {
         ensures more { deque_len queue.new.ready ≡ deque_len queue.old.ready + 1 }
         ensures capacity { deque_capacity queue.new.ready ≡ deque_capacity queue.old.ready }
         ensures line { queue.new.line ≡ queue.old.line }
-        {
+    {
         let Some(entry) = self.pending.pop_first() else {
             unreachable!()
         };
@@ -299,7 +299,7 @@ impl<M: PendingMap> Seen<M> {
         ensures len { load_with queue.new self.new ≡ load_with queue.old self.old }
         ensures capacity { deque_capacity queue.new.ready ≡ deque_capacity queue.old.ready }
         ensures line { queue.new.line ≡ queue.old.line }
-        {
+    {
         while self.is_reached() {
             self.release_first(queue);
         }

@@ -1,4 +1,4 @@
-use Rattle.std.proofs.Common.{◌≡◌, ◌-◌, ◌≤◌}
+use Rattle.std.proofs.Common.{◌-◌, ◌≤◌}
 use Rattle.std.specs.VecDeque.{deque_len}
 use Rattle.admit.proofs.GivenUpRefusals.{Refusing}
 use Rattle.admit.proofs.given_up.refuse_jobs.Given as goal

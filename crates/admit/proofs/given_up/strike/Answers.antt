@@ -1,4 +1,3 @@
-use Rattle.std.proofs.Common.{arith, sym}
 use Rattle.admit.specs.Line.{sent_end}
 use Rattle.admit.proofs.GivenUpRefusals.{fetches_stay}
 use Rattle.admit.proofs.given_up.strike.Goals as goal
