@@ -68,24 +68,16 @@ fn refused_job(alloc: Global, job: Job, status: u32) -> Option<Answer>
 {
     match job {
         Job::Put {
-            number: _number,
-            start: _start,
             bytes: _bytes,
-            asked: _asked,
-            stable: _stable,
             ticket,
+            ..
         } => refused_write(ticket, status),
         Job::Compare {
-            offset: _offset,
             bytes: _bytes,
-            stable: _stable,
             ticket,
+            ..
         } => Some(Answer::not_written(ticket, status)),
-        Job::Fetch {
-            offset: _offset,
-            count: _count,
-            ticket,
-        } => Some(Answer::not_given(alloc, ticket, status)),
+        Job::Fetch { ticket, .. } => Some(Answer::not_given(alloc, ticket, status)),
         Job::Settle { ticket } => Some(Answer::not_committed(ticket, status)),
     }
 }
@@ -134,7 +126,8 @@ fn is_lost(reach: u64, offset: u64, lost: bool) -> bool
     reach < offset || lost
 }
 
-fn lose_above(history: &mut Vec<HistoryEntry>, reach: u64)
+/// The lines above reach are lost.
+pub fn lose_above(history: &mut Vec<HistoryEntry>, reach: u64)
     ensures lines { map line_of history.new.items ≡ entries_lost_above reach (map line_of history.old.items) }
     ensures len { vec_len history.new ≡ vec_len history.old }
 {
@@ -144,17 +137,6 @@ fn lose_above(history: &mut Vec<HistoryEntry>, reach: u64)
         line.lost = is_lost(reach, line.offset, line.lost);
         at += 1;
     }
-}
-
-/// The lines above reach are lost.
-#[tactic(auto, using(crate::proofs::GivenUpLines::numbers))]
-pub fn lose_lines(history: &mut Vec<HistoryEntry>, reach: u64)
-    requires numbered { AreNumberedFrom 0 (map line_of history.old.items) }
-    ensures lines { map line_of history.new.items ≡ entries_lost_above reach (map line_of history.old.items) }
-    ensures numbered { AreNumberedFrom 0 (map line_of history.new.items) }
-    ensures len { vec_len history.new ≡ vec_len history.old }
-{
-    lose_above(history, reach);
 }
 
 // The line of a number is lost. It stands where its number says.

@@ -1,6 +1,6 @@
 // The refusals that a call left to be handed out.
-ghost use Rattle.std.specs.Prelude.{◌≡◌, ◌+◌, ◌<◌, ◌≤◌, ◌^◌, [], ◌++◌, length, OnOk};
-ghost use Rattle.std.specs.VecDeque.{deque_len, deque_capacity};
+ghost use Rattle.std.specs.Prelude.{◌≡◌, ◌+◌, ◌<◌, ◌≤◌, [], ◌++◌, length, OnOk};
+ghost use Rattle.std.specs.VecDeque.{DequeUnchanged, deque_capacity};
 ghost use Rattle.tickets.specs.Answers.{ArePlain, answers_of};
 ghost use Rattle.admit.specs.GivenUp.{Hands};
 ghost use Rattle.admit.specs.Sending.{load_with};
@@ -45,14 +45,25 @@ impl Refusals {
         }
     }
 
-    /// Makes room for so many more. Want of memory changes none of those that are left.
-    pub fn reserve(&mut self, more: usize) -> Result<(), NoMemory>
-        ensures ok { OnOk result (more ≤ self.new.room) }
-        ensures few { OnOk result (more < 2 ^ 63) }
+    /// Makes room for all that is held and for one request more: here, and among the ready jobs. Want of memory changes
+    /// nothing of what is held.
+    pub fn make_room<M: PendingMap>(
+        &mut self,
+        seen: &Seen<M>,
+        waiting: &Waiting,
+        queue: &mut Queue,
+    ) -> Result<(), NoMemory>
+        ensures room { OnOk result (load_with queue.new seen.now + length waiting.now.commits < self.new.room) }
+        ensures jobs { OnOk result (load_with queue.new seen.now + length waiting.now.commits < deque_capacity queue.new.ready) }
         ensures grows { self.old.room ≤ self.new.room }
         ensures answers { self.new.answers ≡ self.old.answers }
+        ensures ready { DequeUnchanged queue.old.ready queue.new.ready }
+        ensures line { queue.new.line ≡ queue.old.line }
     {
-        self.answers.reserve(more).map_err(|_| NoMemory)
+        let most = (seen.pending_len() + 1).saturating_add(waiting.len());
+        let all = most.saturating_add(queue.ready.len());
+        self.answers.reserve(all).map_err(|_| NoMemory)?;
+        queue.ready.reserve(most).map_err(|_| NoMemory)
     }
 
     /// Leaves the answer, if there is one, in the room that there is.
@@ -74,24 +85,4 @@ impl Refusals {
     {
         self.answers.pop_front()
     }
-}
-
-/// Makes room for all that is held and for one request more: among the ready jobs, and for the refusals.
-pub fn make_room<M: PendingMap>(
-    seen: &Seen<M>,
-    waiting: &Waiting,
-    queue: &mut Queue,
-    left: &mut Refusals,
-) -> Result<(), NoMemory>
-    ensures jobs { OnOk result (load_with queue.new seen.now + length waiting.now.commits < deque_capacity queue.new.ready) }
-    ensures room { OnOk result (load_with queue.new seen.now + length waiting.now.commits < left.new.room) }
-    ensures ready { queue.new.ready.items ≡ queue.old.ready.items }
-    ensures len { deque_len queue.new.ready ≡ deque_len queue.old.ready }
-    ensures line { queue.new.line ≡ queue.old.line }
-    ensures grows { left.old.room ≤ left.new.room }
-    ensures answers { left.new.answers ≡ left.old.answers }
-{
-    let most = (seen.pending_len() + 1).saturating_add(waiting.len());
-    left.reserve(most.saturating_add(queue.ready.len()))?;
-    queue.ready.reserve(most).map_err(|_| NoMemory)
 }

@@ -15,7 +15,7 @@ ghost use Rattle.admit.specs.Parts.{IsPendingEntry, entry_write, line_of, memory
 ghost use Rattle.admit.specs.Queue.{ready_jobs};
 ghost use Rattle.admit.specs.Sending.{jobs_ahead, load_with, queue_end, ready_of, seen_released, seen_with};
 
-use crate::given_up::{lose_jobs, lose_lines};
+use crate::given_up::{lose_above, lose_jobs};
 use crate::job::Job;
 use crate::judge::{Found, Repeat};
 use crate::line::Queue;
@@ -323,11 +323,12 @@ impl<M: PendingMap> Seen<M> {
     }
 
     /// Takes the pending writes out. Their lines are lost.
+    #[tactic(auto, using(crate::proofs::GivenUpLines::numbers))]
     pub fn take_pending(&mut self, alloc: Global) -> M
         ensures seen { self.new ≡ seen_without_pending self.old }
         ensures taken { writes_of (M.entries result) ≡ self.old.pending }
     {
-        lose_lines(&mut self.history, self.reach);
+        lose_above(&mut self.history, self.reach);
         self.memory = 0;
         mem::replace(&mut self.pending, M::new(alloc))
     }
