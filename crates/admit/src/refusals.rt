@@ -45,27 +45,6 @@ impl Refusals {
         }
     }
 
-    /// Makes room for all that is held and for one request more: here, and among the ready jobs. Want of memory changes
-    /// nothing of what is held.
-    pub fn make_room<M: PendingMap>(
-        &mut self,
-        seen: &Seen<M>,
-        waiting: &Waiting,
-        queue: &mut Queue,
-    ) -> Result<(), NoMemory>
-        ensures room { OnOk result (load_with queue.new seen.now + length waiting.now.commits < self.new.room) }
-        ensures jobs { OnOk result (load_with queue.new seen.now + length waiting.now.commits < deque_capacity queue.new.ready) }
-        ensures grows { self.old.room ≤ self.new.room }
-        ensures answers { self.new.answers ≡ self.old.answers }
-        ensures ready { DequeUnchanged queue.old.ready queue.new.ready }
-        ensures line { queue.new.line ≡ queue.old.line }
-    {
-        let most = (seen.pending_len() + 1).saturating_add(waiting.len());
-        let all = most.saturating_add(queue.ready.len());
-        self.answers.reserve(all).map_err(|_| NoMemory)?;
-        queue.ready.reserve(most).map_err(|_| NoMemory)
-    }
-
     /// Leaves the answer, if there is one, in the room that there is.
     pub fn push(&mut self, answer: Option<Answer>)
         requires room { 0 < self.old.room }
@@ -85,4 +64,25 @@ impl Refusals {
     {
         self.answers.pop_front()
     }
+}
+
+/// Makes room for all that is held and for one request more: for the refusals, and among the ready jobs. Want of memory
+/// changes nothing of what is held.
+pub fn make_room<M: PendingMap>(
+    left: &mut Refusals,
+    seen: &Seen<M>,
+    waiting: &Waiting,
+    queue: &mut Queue,
+) -> Result<(), NoMemory>
+    ensures room { OnOk result (load_with queue.new seen.now + length waiting.now.commits < left.new.room) }
+    ensures jobs { OnOk result (load_with queue.new seen.now + length waiting.now.commits < deque_capacity queue.new.ready) }
+    ensures grows { left.old.room ≤ left.new.room }
+    ensures answers { left.new.answers ≡ left.old.answers }
+    ensures ready { DequeUnchanged queue.old.ready queue.new.ready }
+    ensures line { queue.new.line ≡ queue.old.line }
+{
+    let most = (seen.pending_len() + 1).saturating_add(waiting.len());
+    let all = most.saturating_add(queue.ready.len());
+    left.answers.reserve(all).map_err(|_| NoMemory)?;
+    queue.ready.reserve(most).map_err(|_| NoMemory)
 }
