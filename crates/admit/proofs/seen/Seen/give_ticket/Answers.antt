@@ -1,4 +1,4 @@
-use Rattle.std.proofs.Common.{length, refl, ◌∙◌, ap}
+use Rattle.std.proofs.Common.{refl, ◌∙◌, ap}
 use Rattle.gw_model.specs.File.{Seen}
 use Rattle.admit.specs.Parts.{writes_of}
 use Rattle.admit.proofs.JudgedRanges.{at_found, length-give, writes-give}
@@ -18,5 +18,4 @@ returns-clause-ticket g c =
 
 pub returns-clause-many : goal.returns-clause-many
 returns-clause-many g c =
-    let before = g.M.PendingMap.entries c.self.inside.pending in
-    ap (λ es. length (writes_of es)) c.give_ticket.ensures ∙ length-give c.args.offset c.args.number c.args.stable c.args.ticket before ∙ ap (λ (s : Seen). length s.pending) c.self.view_is
+    length-give c.args.offset c.args.number c.args.stable c.args.ticket (g.M.PendingMap.entries c.self.inside.pending) _ _ c.give_ticket.ensures (ap (λ (s : Seen). s.pending) c.self.view_is)
