@@ -13,24 +13,25 @@ use Rattle.gw_model.specs.Views.{TraceState}
 use Rattle.gw_model.specs.Writer.{job_step, writer_step, turn_step, turn_step_if, turn_step_in, turn_result}
 use Rattle.gw_model.specs.Bounds.{max_waiting}
 use Rattle.gw_model.proofs.Below.{turn_adds, turn_reads}
-use Rattle.gw_model.proofs.Contents.{open_content, pump_content, read_content, write_content}
+use Rattle.gw_model.proofs.Contents.{commit_content, open_content, pump_content, read_content, write_content}
 use Rattle.gw_model.proofs.Givings.{open_stands}
-use Rattle.gw_model.proofs.Sound.{open_sound, pump_sound, read_sound, turn_sound, write_sound}
-use Rattle.gw_model.proofs.Storing.{next_put_appends, pump_same, read_same, write_same}
+use Rattle.gw_model.proofs.Sound.{commit_sound, open_sound, pump_sound, read_sound, turn_sound, write_sound}
+use Rattle.gw_model.proofs.Storing.{commit_same, next_put_appends, pump_same, read_same, write_same}
 use Rattle.gw_model.proofs.Turning.{turn_leads}
 use Rattle.job_line.specs.declared.items.Job.{Job}
 use Rattle.job_line.specs.declared.items.Job.TheVariants.{Put, Compare, Fetch, Settle}
 use Rattle.admit.specs.Calls as admit
-use Rattle.admit.specs.Calls.{read_request, write_request}
+use Rattle.admit.specs.Calls.{commit_request, read_request, write_request}
 use Rattle.job_line.specs.Views.{job_of, ticket_number}
 use Rattle.admit.specs.declared.request.Verdict.{Verdict}
 use Rattle.admit.specs.declared.request.WriteReq.{WriteReq}
+use Rattle.admit.specs.declared.request.CommitReq.{CommitReq}
 use Rattle.admit.specs.declared.request.ReadReq.{ReadReq}
 use Rattle.admit.specs.declared.request.News.{News}
 use Rattle.writeback.specs.Steps.{IsNextPut, Reads, Works, appended_bytes, with_calls_ahead, is_want, past_refusal_if, put_bytes}
 use Rattle.file_cell.specs.State.{AdmitSideState, CellState, WriterSideState, cell_of}
 use Rattle.file_cell.specs.Steps.{cell_writer}
-use Rattle.file_cell.specs.Files.{CellFetches, CellLeads, CellOpenLaw, CellPumps, CellWrites, Idles, StandsFor, TurnsFor}
+use Rattle.file_cell.specs.Files.{CellCommits, CellFetches, CellLeads, CellOpenLaw, CellPumps, CellWrites, Idles, StandsFor, TurnsFor}
 use Rattle.file_cell.proofs.State.{writer_none}
 
 -- A request leaves the writer and the body.
@@ -49,6 +50,26 @@ writes v r a b w old is base on = subst (λ (c : CellState). CellWrites v c r (c
             base = base ∙ h.base ∙ sym (ap length same.base);
             sound = write_sound a.admit.limits f (write_request r) t h.sound;
             content = h.content ∙ sym (write_content a.admit.limits f (write_request r) t h.sound.below);
+          };
+          answers = follows.answers;
+          uses = follows.uses;
+          ahead = follows.ahead;
+        }
+
+pub commits : (v : Verdict) (r : CommitReq) (a b : AdmitSideState) (w : WriterSideState) (old : CellState) → cell_of a w ≡ old → b.base ≡ a.base → admit.Commits v a.admit r b.admit → CellCommits v old r (cell_of b w)
+commits v r a b w old is base on = subst (λ (c : CellState). CellCommits v c r (cell_of b w)) is go
+  where
+    go : CellCommits v (cell_of a w) r (cell_of b w)
+    go f t h e =
+        let follows = on f t h.side e in
+        let same = commit_same a.admit.limits f (commit_request r) t in
+        record {
+          stands = record {
+            side = follows.stands;
+            writer = h.writer ∙ sym same.writer;
+            base = base ∙ h.base ∙ sym (ap length same.base);
+            sound = commit_sound a.admit.limits f (commit_request r) t h.sound;
+            content = h.content ∙ sym (commit_content a.admit.limits f (commit_request r) t h.sound.below);
           };
           answers = follows.answers;
           uses = follows.uses;

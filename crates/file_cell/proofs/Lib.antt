@@ -2,5 +2,6 @@ pub mod State
 pub mod WriterSide
 pub mod Files
 pub mod Cells
+pub mod Syncs
 pub mod ClosedFiles
 pub mod Histories

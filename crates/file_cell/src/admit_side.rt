@@ -4,12 +4,12 @@ ghost use Rattle.gw_model.specs.Bounds.{end_limit, max_transfer};
 ghost use Rattle.gw_model.specs.File.{is_empty, is_stale};
 ghost use Rattle.gw_model.specs.Sides.{side_pump_step};
 ghost use Rattle.job_line.specs.Ends.{SameContextIn, jobs_sent};
-ghost use Rattle.admit.specs.Calls.{Fetches, IsPumped, Pumps, TellsRead, TellsWrite, Writes, news_of, pump_state, with_heard};
+ghost use Rattle.admit.specs.Calls.{Commits, Fetches, IsPumped, Pumps, TellsCommit, TellsRead, TellsWrite, Writes, news_of, pump_state, with_heard};
 ghost use Rattle.admit.specs.GivenUp.{Hands};
 ghost use Rattle.admit.specs.Line.{GoesOn};
 ghost use Rattle.file_cell.specs.Steps.{is_quiet};
 
-use admit::{Admit, News, Pumped, ReadReq, Verdict, WriteReq};
+use admit::{Admit, CommitReq, News, Pumped, ReadReq, Verdict, WriteReq};
 use gw_model::FileId;
 use range_map::PendingMap;
 use std::marker::Model;
@@ -44,6 +44,15 @@ impl<M: PendingMap> AdmitSide<M> {
         ensures rest { self.new ≡ record self.old { admit = self.new.admit } }
     {
         self.admit.receive(request)
+    }
+
+    /// Takes a COMMIT in. Takes memory.
+    pub(crate) fn commit(&mut self, request: CommitReq) -> Verdict
+        ensures step { TellsCommit result self.old.admit request self.new.admit }
+        ensures stands { Commits result self.old.admit request self.new.admit }
+        ensures rest { self.new ≡ record self.old { admit = self.new.admit } }
+    {
+        self.admit.commit(request)
     }
 
     /// Takes a READ in. Takes memory.

@@ -1,5 +1,5 @@
 // The context of one open file.
-ghost use Rattle.std.specs.Prelude.{◌≡◌, ◌+◌, ◌<◌, ◌-◌, ◌≤◌, ◌^◌, [], IfErr, IfOk, length};
+ghost use Rattle.std.specs.Prelude.{◌≡◌, ◌+◌, ◌<◌, ◌-◌, ◌≤◌, ◌^◌, [], ◌∷◌, IfErr, IfOk, length};
 ghost use Rattle.gw_model.specs.Bounds.{end_limit, max_transfer};
 ghost use Rattle.gw_model.specs.Ending.{EndReason, history_of};
 ghost use Rattle.gw_model.specs.File.{File, is_stale};
@@ -8,15 +8,16 @@ ghost use Rattle.admit.specs.GivenUp.{Hands};
 ghost use Rattle.admit.specs.Line.{GoesOn, next_jobs};
 ghost use Rattle.job_line.specs.Ends.{IsOneContext, jobs_known, jobs_sent, jobs_taken, line_slots};
 ghost use Rattle.writeback.specs.State.{file_seen};
+ghost use Rattle.writeback.specs.Steps.{IsDurable, Leaves, sync_call, with_calls};
 ghost use Rattle.file_cell.specs.State.{HasHeard};
-ghost use Rattle.file_cell.specs.Files.{CellFetches, CellPumps, CellWrites, StandsFor};
+ghost use Rattle.file_cell.specs.Files.{CellCommits, CellFetches, CellPumps, CellWrites, StandsFor, SyncsFor};
 ghost use Rattle.file_cell.specs.History.{history_of_ended};
-ghost use Rattle.file_cell.specs.Steps.{CellIsPumped, CellTellsRead, CellTellsWrite, IsBack, IsEnded, IsJustOpened, IsLineBack, IsLooked, IsStepped, counted_admit, is_cell_idle, pumped_cell};
+ghost use Rattle.file_cell.specs.Steps.{CellIsPumped, CellTellsCommit, CellTellsRead, CellTellsWrite, CoversDurable, IsBack, IsEnded, IsJustOpened, IsLineBack, IsLooked, IsStepped, counted_admit, is_cell_idle, pumped_cell, synced_cell};
 
 use crate::admit_side::AdmitSide;
 use crate::closed::{Closed, Ended};
 use crate::writer_side::{Stepped, WriterSide};
-use admit::{Admit, Pumped, ReadReq, Verdict, WriteReq};
+use admit::{Admit, CommitReq, Pumped, ReadReq, Verdict, WriteReq};
 use append_store::AppendFile;
 use gw_model::{FileId, Hull, Limits, Trace};
 use job_line::{LineIn, LineOut, begin};
@@ -24,7 +25,7 @@ use range_map::PendingMap;
 use std::alloc::Global;
 use std::marker::Model;
 use tickets::Answer;
-use writeback::Writer;
+use writeback::{Synced, Writer};
 
 /// The context of one open file: its admission side and its writer side, each with its end of the line between them.
 #[derive(Drop)]
@@ -110,6 +111,14 @@ impl<F: AppendFile, M: PendingMap> FileCell<F, M> {
         self.admit.write(request)
     }
 
+    /// Answers a COMMIT (RFC 1813 section 3.3.21), or holds it until its bytes are stored and synced. Takes memory.
+    pub fn commit(&mut self, request: CommitReq) -> Verdict
+        ensures step { CellTellsCommit result self.old request self.new }
+        ensures stands { CellCommits result self.old request self.new }
+    {
+        self.admit.commit(request)
+    }
+
     /// Holds a READ, or answers that the ready list has no room. Takes memory.
     pub fn read(&mut self, request: ReadReq) -> Verdict
         ensures step { CellTellsRead result self.old request self.new }
@@ -135,6 +144,22 @@ impl<F: AppendFile, M: PendingMap> FileCell<F, M> {
         let stepped = self.writer.write_step(trace);
         look_beside(&mut self.admit, &mut self.writer);
         stepped
+    }
+
+    /// Makes what is stored durable, by one call of hsync. Then `next_answer` gives the answers to those that waited, in the
+    /// order in which they began to wait: as they asked, or `NFS3ERR_IO` where hsync failed. The writer goes on working
+    /// then. The trace has room for a note. Takes no memory.
+    pub fn sync_step(&mut self, trace: &mut Trace) -> Synced
+        requires none_left { self.old.left ≡ [] }
+        requires noted { 0 < trace.old.room }
+        ensures step { self.new ≡ synced_cell result self.new.file self.old }
+        ensures notes { trace.new ≡ with_calls (sync_call result ∷ []) trace.old }
+        ensures file { Leaves F.tells [] (sync_call result ∷ []) self.old.file self.new.file }
+        ensures durable { IsDurable F.tells result self.new.file }
+        ensures stands { SyncsFor F.tells result self.old self.new }
+        ensures covers { CoversDurable F.tells result self.old self.new }
+    {
+        self.writer.sync_step(trace)
     }
 
     /// Hears of the writer, and sends what is ready. Where the writer failed and the file is live, it turns stale. Takes no

@@ -1,9 +1,10 @@
 // The writer side of an open file.
-ghost use Rattle.std.specs.Prelude.{◌≡◌, ◌<◌, [], ◌++◌, length, nat_lt};
+ghost use Rattle.std.specs.Prelude.{◌≡◌, ◌<◌, [], ◌∷◌, ◌++◌, length, nat_lt};
 ghost use Rattle.gw_model.specs.Bounds.{max_waiting};
 ghost use Rattle.admit.specs.Calls.{news_of};
 ghost use Rattle.admit.specs.GivenUp.{Hands};
-ghost use Rattle.file_cell.specs.Steps.{SideSteps};
+ghost use Rattle.writeback.specs.Steps.{IsDurable, Leaves, sync_call, with_calls};
+ghost use Rattle.file_cell.specs.Steps.{SideSteps, synced_side};
 
 use admit::{Failed, News};
 use append_store::AppendFile;
@@ -11,7 +12,7 @@ use gw_model::Trace;
 use job_line::LineOut;
 use std::marker::Model;
 use tickets::Answer;
-use writeback::Writer;
+use writeback::{Synced, Writer};
 
 /// What a write step did.
 #[derive(Clone, Copy, Debug, Drop, PartialEq, Eq)]
@@ -60,6 +61,19 @@ impl<F: AppendFile> WriterSide<F> {
         };
         self.turned = self.writer.turn(job, trace);
         Stepped::Did
+    }
+
+    /// Calls hsync, by which those that wait for a sync are answered: their answers are left. The trace has room for a note.
+    /// Takes no memory.
+    pub(crate) fn sync_step(&mut self, trace: &mut Trace) -> Synced
+        requires none_left { self.old.left ≡ [] }
+        requires noted { 0 < trace.old.room }
+        ensures step { self.new ≡ synced_side result self.new.file self.old }
+        ensures notes { trace.new ≡ with_calls (sync_call result ∷ []) trace.old }
+        ensures file { Leaves F.tells [] (sync_call result ∷ []) self.old.file self.new.file }
+        ensures durable { IsDurable F.tells result self.new.file }
+    {
+        self.writer.sync(trace)
     }
 
     /// What is heard of the writer.
