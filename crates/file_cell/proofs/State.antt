@@ -16,11 +16,11 @@ use Rattle.file_cell.specs.State.{AdmitSideState, CellState, IsWithinTaken, Writ
 
 -- no answer is left
 
-first_none : {X : Type 0} (xs ys : List X) → xs ++ ys ≡ [] → xs ≡ []
+pub first_none : {X : Type 0} (xs ys : List X) → xs ++ ys ≡ [] → xs ≡ []
 first_none [] ys is = refl
 first_none (x ∷ xs) ys is = cc
 
-second_none : {X : Type 0} (xs ys : List X) → xs ++ ys ≡ [] → ys ≡ []
+pub second_none : {X : Type 0} (xs ys : List X) → xs ++ ys ≡ [] → ys ≡ []
 second_none [] ys is = is
 second_none (x ∷ xs) ys is = cc
 
