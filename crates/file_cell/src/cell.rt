@@ -1,8 +1,8 @@
 // The context of one open file.
-ghost use Rattle.std.specs.Prelude.{◌≡◌, ◌+◌, ◌<◌, ◌-◌, ◌≤◌, ◌^◌, [], ◌∷◌, IfErr, IfOk, length};
+ghost use Rattle.std.specs.Prelude.{◌≡◌, ◌+◌, ◌<◌, ◌-◌, ◌≤◌, ◌^◌, [], ◌∷◌, IfErr, IfOk, length, not};
 ghost use Rattle.gw_model.specs.Bounds.{end_limit, max_transfer};
-ghost use Rattle.gw_model.specs.Ending.{EndReason, history_of};
-ghost use Rattle.gw_model.specs.File.{File, is_stale};
+ghost use Rattle.gw_model.specs.Ending.{EndReason, history_of, tick_judgement};
+ghost use Rattle.gw_model.specs.File.{File, is_empty, is_stale};
 ghost use Rattle.gw_model.specs.Sides.{side_pump_step};
 ghost use Rattle.admit.specs.GivenUp.{Hands};
 ghost use Rattle.admit.specs.Line.{GoesOn, next_jobs};
@@ -10,11 +10,11 @@ ghost use Rattle.job_line.specs.Ends.{IsOneContext, jobs_known, jobs_sent, jobs_
 ghost use Rattle.writeback.specs.State.{file_seen};
 ghost use Rattle.writeback.specs.Steps.{IsDurable, Leaves, sync_call, with_calls};
 ghost use Rattle.file_cell.specs.State.{HasHeard};
-ghost use Rattle.file_cell.specs.Files.{CellCommits, CellFetches, CellPumps, CellWrites, StandsFor, SyncsFor};
+ghost use Rattle.file_cell.specs.Files.{CellCommits, CellFetches, CellPumps, CellTicks, CellWrites, StandsFor, SyncsFor};
 ghost use Rattle.file_cell.specs.History.{history_of_ended};
-ghost use Rattle.file_cell.specs.Steps.{CellIsPumped, CellTellsCommit, CellTellsRead, CellTellsWrite, CoversDurable, IsBack, IsEnded, IsJustOpened, IsLineBack, IsLooked, IsStepped, counted_admit, is_cell_idle, pumped_cell, synced_cell};
+ghost use Rattle.file_cell.specs.Steps.{CellIsPumped, CellTellsCommit, CellTellsRead, CellTellsWrite, CoversDurable, IsBack, IsEnded, IsJustOpened, IsLineBack, IsLooked, IsStepped, counted_admit, is_cell_idle, pumped_cell, synced_cell, ticked_cell, ticked_of};
 
-use crate::admit_side::AdmitSide;
+use crate::admit_side::{AdmitSide, Ticked};
 use crate::closed::{Closed, Ended};
 use crate::writer_side::{Stepped, WriterSide};
 use admit::{Admit, CommitReq, Pumped, ReadReq, Verdict, WriteReq};
@@ -90,6 +90,8 @@ impl<F: AppendFile, M: PendingMap> FileCell<F, M> {
                     id: file,
                     base,
                     admit,
+                    limits,
+                    used: moment,
                 },
                 writer: WriterSide {
                     writer,
@@ -176,6 +178,27 @@ impl<F: AppendFile, M: PendingMap> FileCell<F, M> {
         self.admit.pump_step(news)
     }
 
+    /// Judges the file at a moment. Where it wasn't used for the time that the limits give, its pending writes and waiting
+    /// COMMITs are given up, and that counts as a use; where it is idle then, or idle and stale, or idle with as many accepted
+    /// writes as may be, it is to be closed. Takes no memory.
+    pub fn tick(&mut self, moment: u64) -> Ticked
+        requires none_left { self.old.left ≡ [] }
+        ensures judged { let owes = not (is_empty self.old.writer.owed) in
+            result ≡ ticked_of (tick_judgement self.old.limits self.old.side owes moment) }
+        ensures step { self.new ≡ ticked_cell result moment self.old }
+        ensures stands { CellTicks self.old moment self.new }
+    {
+        let owes = self.writer.waiting() > 0;
+        self.admit.tick(moment, owes)
+    }
+
+    /// The moment of the last use of the file, or when it was opened.
+    pub fn used(&self) -> u64
+        ensures { result ≡ self.now.side.held.used }
+    {
+        self.admit.used()
+    }
+
     /// The next answer that a call left: that of a turn, then those of the admission side. Takes no memory.
     pub fn next_answer(&mut self) -> Option<Answer>
         ensures hands { Hands result self.old.left self.new.left }
@@ -228,7 +251,13 @@ impl<F: AppendFile, M: PendingMap> FileCell<F, M> {
         ensures history { (f : File) (why : EndReason) → StandsFor self f → history_of_ended result.ended why ≡ history_of f why }
     {
         let FileCell { admit, writer } = self;
-        let AdmitSide { id, base, admit } = admit;
+        let AdmitSide {
+            id,
+            base,
+            admit,
+            limits: _,
+            used: _,
+        } = admit;
         let WriterSide {
             writer,
             output,
