@@ -4,5 +4,6 @@ pub mod Files
 pub mod Cells
 pub mod Syncs
 pub mod Uses
+pub mod Ticks
 pub mod ClosedFiles
 pub mod Histories

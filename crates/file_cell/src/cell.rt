@@ -188,7 +188,7 @@ impl<F: AppendFile, M: PendingMap> FileCell<F, M> {
         ensures step { self.new ≡ ticked_cell result moment self.old }
         ensures stands { CellTicks self.old moment self.new }
     {
-        let owes = self.writer.waiting() > 0;
+        let owes = self.writer.owes();
         self.admit.tick(moment, owes)
     }
 

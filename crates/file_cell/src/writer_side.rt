@@ -1,6 +1,7 @@
 // The writer side of an open file.
-ghost use Rattle.std.specs.Prelude.{◌≡◌, ◌<◌, [], ◌∷◌, ◌++◌, length, nat_lt};
+ghost use Rattle.std.specs.Prelude.{◌≡◌, ◌<◌, [], ◌∷◌, ◌++◌, length, nat_lt, not};
 ghost use Rattle.gw_model.specs.Bounds.{max_waiting};
+ghost use Rattle.gw_model.specs.File.{is_empty};
 ghost use Rattle.admit.specs.Calls.{news_of};
 ghost use Rattle.admit.specs.GivenUp.{Hands};
 ghost use Rattle.writeback.specs.Steps.{IsDurable, Leaves, sync_call, with_calls};
@@ -106,6 +107,14 @@ impl<F: AppendFile> WriterSide<F> {
         ensures { result ≡ length self.now.writer.owed }
     {
         self.writer.waiting()
+    }
+
+    /// Whether a ticket waits for a sync.
+    #[tactic(auto, using(crate::proofs::Cells::empty_is))]
+    pub(crate) fn owes(&self) -> bool
+        ensures { result ≡ not (is_empty self.now.writer.owed) }
+    {
+        self.writer.waiting() != 0
     }
 
     /// The next answer that a step left: that of a turn, then those of a sync. Takes no memory.
