@@ -5,5 +5,7 @@ pub mod Cells
 pub mod Syncs
 pub mod Uses
 pub mod Ticks
+pub mod Hearing
+pub mod Closings
 pub mod ClosedFiles
 pub mod Histories

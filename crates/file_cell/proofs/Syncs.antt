@@ -18,7 +18,8 @@ use Rattle.writeback.specs.State.{FileSeen, WriterSeen, fate_answers}
 use Rattle.writeback.specs.Steps.{AnswersLater, IsDurable, Leaves, fate_after, sync_call, with_calls_ahead, writer_after_sync}
 use Rattle.writeback.specs.declared.owed.Synced.{Synced}
 use Rattle.writeback.specs.declared.owed.Synced.TheVariants.{Done, Failed}
-use Rattle.file_cell.specs.State.{AdmitSideState, CellState, IsWithinTaken, WriterSideState, cell_of, writer_side_of}
+use Rattle.file_cell.proofs.Hearing.{sync_knows}
+use Rattle.file_cell.specs.State.{AdmitSideState, CellState, IsJoined, IsWithinTaken, WriterSideState, cell_of, writer_side_of}
 use Rattle.file_cell.specs.Steps.{CoversDurable, synced_cell, synced_side}
 use Rattle.file_cell.specs.Files.{CellLeads, StandsFor, SyncsFor}
 use Rattle.file_cell.proofs.State.{admit_none, second_none, first_none}
@@ -66,6 +67,10 @@ cell_syncs how a w v old is none step =
     ∙ ap (λ xs. shown (fate_answers (fate_after how) w.writer.owed ++ xs)) (admit_none a w old is none)
     ∙ ap shown (append-nil (fate_answers (fate_after how) w.writer.owed))
     ∙ ap (λ (x : CellState). synced_cell how v.file x) is
+
+-- both sides stay joined
+pub still_joined_after_sync : (how : Synced) (a : AdmitSideState) (w v : WriterSideState) → v ≡ synced_side how v.file w → IsJoined a w → IsJoined a v
+still_joined_after_sync how a w v step is = subst (IsJoined a) (sym step) (record { one = is.one; taken = is.taken; heard = is.heard; failed = sync_knows a.admit.side how w.writer is.failed })
 
 -- The file.
 

@@ -9,7 +9,11 @@ use Rattle.gw_model.proofs.Givings.{give_up_leads}
 use Rattle.gw_model.proofs.Sound.{give_up_sound}
 use Rattle.gw_model.proofs.Storing.{give_up_same}
 use Rattle.admit.specs.State.{AdmitState}
-use Rattle.file_cell.specs.State.{AdmitSideState, CellState, WriterSideState, cell_of}
+use mathlib.Core.List.{IsPrefix}
+use Rattle.job_line.specs.Ends.{IsOneContext, jobs_sent, jobs_taken}
+use Rattle.job_line.specs.declared.ends.LineIn.{LineIn}
+use Rattle.file_cell.proofs.Hearing.{tick_knows}
+use Rattle.file_cell.specs.State.{AdmitSideState, CellState, IsJoined, KnowsFailure, WriterSideState, cell_of}
 use Rattle.file_cell.specs.Steps.{ticked_admit, ticked_cell, ticked_of}
 use Rattle.file_cell.specs.Files.{CellLeads, CellTicks, StandsFor, tick_step}
 use Rattle.file_cell.specs.declared.admit_side.Ticked.{Ticked}
@@ -54,3 +58,28 @@ ticks_for how moment old none judged f t h =
           answers = leads.1;
           ahead = leads.3;
         }
+
+-- both sides stay joined
+pub still_joined_after_tick : (how : Ticked) (moment : ℕ) (a b : AdmitSideState) (w : WriterSideState) → b.admit ≡ ticked_admit how moment a.admit → IsJoined a w → IsJoined b w
+still_joined_after_tick how moment a b w step is = record {
+  one = subst (λ (i : LineIn). IsOneContext i w.output) (sym (line how step)) is.one;
+  taken = subst (λ (i : LineIn). IsPrefix (jobs_taken w.output) (jobs_sent i)) (sym (line how step)) is.taken;
+  heard = heard how step ∙ is.heard;
+  failed = subst (λ (x : AdmitState). KnowsFailure x.side w.writer.failed) (sym step) (tick_knows how moment a.admit w.writer.failed is.failed);
+}
+  where
+    same_line : (how : Ticked) → (ticked_admit how moment a.admit).line ≡ a.admit.line
+    same_line Nothing = refl
+    same_line Close = refl
+    same_line GaveUp = refl
+
+    same_heard : (how : Ticked) → (ticked_admit how moment a.admit).heard ≡ a.admit.heard
+    same_heard Nothing = refl
+    same_heard Close = refl
+    same_heard GaveUp = refl
+
+    line : (how : Ticked) → b.admit ≡ ticked_admit how moment a.admit → b.admit.line ≡ a.admit.line
+    line how is = ap (λ (x : AdmitState). x.line) is ∙ same_line how
+
+    heard : (how : Ticked) → b.admit ≡ ticked_admit how moment a.admit → b.admit.heard ≡ a.admit.heard
+    heard how is = ap (λ (x : AdmitState). x.heard) is ∙ same_heard how

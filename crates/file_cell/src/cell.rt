@@ -1,5 +1,5 @@
 // The context of one open file.
-ghost use Rattle.std.specs.Prelude.{◌≡◌, ◌+◌, ◌<◌, ◌-◌, ◌≤◌, ◌^◌, [], ◌∷◌, IfErr, IfOk, length, not};
+ghost use Rattle.std.specs.Prelude.{◌≡◌, ◌+◌, ◌<◌, ◌-◌, ◌≤◌, ◌^◌, [], ◌∷◌, IfErr, IfOk, length, not, true};
 ghost use Rattle.gw_model.specs.Bounds.{end_limit, max_transfer};
 ghost use Rattle.gw_model.specs.Ending.{EndReason, history_of, tick_judgement};
 ghost use Rattle.gw_model.specs.File.{File, is_empty, is_stale};
@@ -10,9 +10,9 @@ ghost use Rattle.job_line.specs.Ends.{IsOneContext, jobs_known, jobs_sent, jobs_
 ghost use Rattle.writeback.specs.State.{file_seen};
 ghost use Rattle.writeback.specs.Steps.{IsDurable, Leaves, sync_call, with_calls};
 ghost use Rattle.file_cell.specs.State.{HasHeard};
-ghost use Rattle.file_cell.specs.Files.{CellCommits, CellFetches, CellPumps, CellTicks, CellWrites, StandsFor, SyncsFor};
+ghost use Rattle.file_cell.specs.Files.{CellCommits, CellFetches, CellPumps, CellTicks, CellWrites, ClosesFor, StandsFor, SyncsFor};
 ghost use Rattle.file_cell.specs.History.{history_of_ended};
-ghost use Rattle.file_cell.specs.Steps.{CellIsPumped, CellTellsCommit, CellTellsRead, CellTellsWrite, CoversDurable, IsBack, IsEnded, IsJustOpened, IsLineBack, IsLooked, IsStepped, counted_admit, is_cell_idle, pumped_cell, synced_cell, ticked_cell, ticked_of};
+ghost use Rattle.file_cell.specs.Steps.{CellIsPumped, CellTellsCommit, CellTellsRead, CellTellsWrite, CoversDurable, IsBack, IsEnded, IsJustOpened, IsLineBack, IsLooked, IsStepped, counted_admit, closing_cell, is_cell_idle, pumped_cell, synced_cell, ticked_cell, ticked_of};
 
 use crate::admit_side::{AdmitSide, Ticked};
 use crate::closed::{Closed, Ended};
@@ -190,6 +190,26 @@ impl<F: AppendFile, M: PendingMap> FileCell<F, M> {
     {
         let owes = self.writer.owes();
         self.admit.tick(moment, owes)
+    }
+
+    /// Closes an idle file but for giving its parts back: hears of the writer, and makes what is stored durable by one call of
+    /// hsync. Where that failed the file stays open. The trace has room for a note. Takes no memory.
+    pub fn close_step(&mut self, trace: &mut Trace) -> Synced
+        requires idle { is_cell_idle self.old ≡ true }
+        requires none_left { self.old.left ≡ [] }
+        requires noted { 0 < trace.old.room }
+        ensures step { self.new ≡ closing_cell result self.new.file self.new.input self.old }
+        ensures idle { is_cell_idle self.new ≡ true }
+        ensures none_left { self.new.left ≡ [] }
+        ensures line { GoesOn self.old.input self.new.input }
+        ensures notes { trace.new ≡ with_calls (sync_call result ∷ []) trace.old }
+        ensures file { Leaves F.tells [] (sync_call result ∷ []) self.old.file self.new.file }
+        ensures durable { IsDurable F.tells result self.new.file }
+        ensures stands { ClosesFor F.tells result self.old self.new }
+    {
+        let news = self.writer.news();
+        self.admit.pump_step(news);
+        self.writer.sync_step(trace)
     }
 
     /// The moment of the last use of the file, or when it was opened.

@@ -2,6 +2,8 @@ use Rattle.std.proofs.Common.{ap}
 use Rattle.file_cell.specs.State.{AdmitSideState}
 use Rattle.file_cell.proofs.Cells.{still_joined, tells_on, tells_commit}
 use Rattle.file_cell.proofs.Files.{commits}
+use Rattle.admit.specs.Calls.{commit_request}
+use Rattle.file_cell.proofs.Hearing.{knows_after, commit_knows}
 use Rattle.file_cell.proofs.cell.FileCell.commit.Goals as goal
 
 pub invariant_of-self : goal.invariant_of-self
@@ -9,7 +11,9 @@ invariant_of-self g c =
     let a = c.self.inside.admit in
     let b = c.commit.new.self in
     let on = tells_on c.commit.result c.args.request.ticket a.admit b.admit _ c.commit.ensures.step in
-    still_joined a b c.self.inside.writer on.0 on.1 c.self.invariant
+    let failed = c.self.inside.writer.writer.failed in
+    let knows = knows_after c.commit.result c.args.request.ticket a.admit b.admit _ failed c.commit.ensures.step (commit_knows a.admit.limits a.admit.side (commit_request c.args.request) failed) c.self.invariant.failed in
+    still_joined a b c.self.inside.writer on.0 on.1 knows c.self.invariant
 
 pub returns-clause-step : goal.returns-clause-step
 returns-clause-step g c =

@@ -4,13 +4,19 @@ use Rattle.writeback.specs.Steps.{Leaves, sync_call}
 use Rattle.file_cell.specs.State.{CellState, cell_of}
 use Rattle.file_cell.specs.Files.{SyncsFor}
 use Rattle.file_cell.proofs.State.{writer_none}
-use Rattle.file_cell.proofs.Syncs.{cell_syncs, covers_durable, syncs_for}
+use Rattle.file_cell.proofs.Syncs.{cell_syncs, covers_durable, still_joined_after_sync, syncs_for}
 use Rattle.file_cell.proofs.cell.FileCell.sync_step.Goals as goal
 
 pub sync_step-requires-clause-none_left : goal.sync_step-requires-clause-none_left
 sync_step-requires-clause-none_left g c =
     let s = c.self.inside in
     writer_none s.admit s.writer c.args.self.now c.self.view_is c.requires.none_left
+
+pub invariant_of-self : goal.invariant_of-self
+invariant_of-self g c =
+    let i = c.self.invariant in
+    let s = c.self.inside in
+    still_joined_after_sync c.sync_step.result s.admit s.writer c.sync_step.new.self c.sync_step.ensures.step i
 
 pub returns-clause-step : goal.returns-clause-step
 returns-clause-step g c =

@@ -5,13 +5,18 @@ use Rattle.file_cell.specs.State.{CellState}
 use Rattle.file_cell.specs.Steps.{ticked_of}
 use Rattle.file_cell.specs.Files.{CellTicks}
 use Rattle.file_cell.proofs.State.{admit_none}
-use Rattle.file_cell.proofs.Ticks.{ticks, ticks_for}
+use Rattle.file_cell.proofs.Ticks.{still_joined_after_tick, ticks, ticks_for}
 use Rattle.file_cell.proofs.cell.FileCell.tick.Goals as goal
 
 pub tick-requires : goal.tick-requires
 tick-requires g c =
     let s = c.self.inside in
     record { none_left = admit_none s.admit s.writer c.args.self.now c.self.view_is c.requires.none_left }
+
+pub invariant_of-self : goal.invariant_of-self
+invariant_of-self g c =
+    let s = c.self.inside in
+    still_joined_after_tick c.tick.result c.args.moment s.admit c.tick.new.self s.writer c.tick.ensures.step c.self.invariant
 
 pub returns-clause-step : goal.returns-clause-step
 returns-clause-step g c =
