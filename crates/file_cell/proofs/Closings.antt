@@ -1,18 +1,17 @@
 -- The closing of an idle file: what hearing of the writer comes to there, and the closing of the files that a cell stands for.
-use Rattle.std.proofs.Common.{◌≡◌, ℕ, ◌<◌, Bool, true, false, nat_lt, nat_le, Option, Some, None, List, [], ◌∷◌, ◌++◌, length, map, refl, sym, ◌∙◌, ap, subst, append-nil}
+use Rattle.std.proofs.Common.{◌≡◌, ℕ, Bool, true, false, nat_lt, nat_le, Option, Some, None, List, [], ◌∷◌, ◌++◌, length, map, refl, sym, ◌∙◌, ap, subst, append-nil}
 use Rattle.std.specs.Prelude.{if◌then◌else◌, not, ◌&&◌, ◌||◌}
 use Rattle.std.specs.List.{filter}
 use Rattle.std.proofs.Math.Bool.{or-false}
-use Rattle.gw_model.specs.declared.Hull.{Hull}
 use Rattle.gw_model.specs.declared.limits.Limits.{Limits}
-use Rattle.gw_model.specs.Ahead.{Outcomes, CallResult, Good, Bad}
-use Rattle.gw_model.specs.Order.{Accepted, hung_writes, reach, standing_writes, with_let_go, with_let_go_above, with_write, with_writes}
+use Rattle.gw_model.specs.Ahead.{Outcomes}
+use Rattle.gw_model.specs.Order.{Accepted, standing_writes, with_let_go, with_let_go_above, with_write, with_writes}
 use Rattle.gw_model.specs.File as model
 use Rattle.gw_model.specs.File.{Answer, Entry, Failure, File, Phase, Live, Stale, Side, Waiting, Writer, content, entry_of, is_empty, is_stale, pending_writes, reach_of}
 use Rattle.gw_model.specs.Statuses.{io}
 use Rattle.gw_model.specs.Admission.{entry_refusals, job_refusals, joined_hull, struck_jobs, waiting_refusals}
 use Rattle.gw_model.specs.Ending.{Closing, closing_by, closing_of, heard_phase, last_hearing}
-use Rattle.gw_model.specs.Sides.{SideStep, entries_lost_above, entries_lost_with, IsSideOf, side_hearing_step, side_hearing_step_in, side_last_hearing, side_pump_step, side_stale_step}
+use Rattle.gw_model.specs.Sides.{entries_lost_above, entries_lost_with, IsSideOf, side_hearing_step, side_hearing_step_in, side_last_hearing, side_pump_step, side_stale_step}
 use Rattle.gw_model.specs.Admission.{with_ready_sent}
 use Rattle.gw_model.specs.Sound.{IsSoundFile, pieces_of}
 use Rattle.gw_model.proofs.Givings.{entries_lost}
@@ -22,9 +21,9 @@ use Rattle.writeback.specs.State.{FileSeen, fate_answers}
 use Rattle.writeback.specs.Steps.{Leaves, fate_after, sync_call, with_calls_ahead, writer_after_sync}
 use Rattle.writeback.specs.declared.owed.Synced.{Synced}
 use Rattle.writeback.specs.declared.owed.Synced.TheVariants.{Done, Failed}
-use Rattle.file_cell.specs.State.{CellState, HasHeardFailure, KnowsFailure}
+use Rattle.file_cell.specs.State.{CellState, KnowsFailure}
 use Rattle.file_cell.specs.Steps.{closing_cell, is_cell_idle, is_quiet}
-use Rattle.file_cell.specs.Files.{CellCloses, ClosesFor, StandsFor, is_done}
+use Rattle.file_cell.specs.Files.{ClosesFor, is_done}
 
 -- Where nothing hangs, nothing is let go.
 

@@ -1,12 +1,11 @@
 -- A stale side heard of the writer's failure, and each step keeps that.
-use Rattle.std.proofs.Common.{◌≡◌, ℕ, ◌<◌, ◌≤◌, max, Bool, true, false, nat_lt, nat_le, Option, Some, None, List, [], ◌∷◌, ◌++◌, ◌+◌, length, drop, refl, sym, ◌∙◌, ap, subst, arith, inl, inr}
-use Rattle.std.specs.Prelude.{if◌then◌else◌, min, ◌||◌}
+use Rattle.std.proofs.Common.{◌≡◌, ℕ, max, Bool, true, false, nat_lt, Option, Some, None, List, ◌+◌, drop, refl, sym, ◌∙◌, ap, subst, arith, inl, inr}
+use Rattle.std.specs.Prelude.{if◌then◌else◌, min}
 use Rattle.gw_model.specs.declared.Hull.{Hull}
 use Rattle.gw_model.specs.declared.limits.Limits.{Limits}
 use Rattle.gw_model.specs.Ahead.{CallResult}
-use Rattle.gw_model.specs.Order.{Accepted}
-use Rattle.gw_model.specs.File.{Failure, Phase, Live, Stale, Side, Writer, is_stale, ready_weight, settle_count}
-use Rattle.gw_model.specs.Admission.{WriteRequest, CommitRequest, ReadRequest, WriteJudgement, Barred, Busy, Compared, Again, Taken, Repeat, Differs, Unanswered, Answered, Takes, CommitJudgement, CommitBarred, CommitBusy, Waits, Settles, commit_judgement, goal_of, hull_bars, joined_hull, repeat_of, side_with_accepted, with_ready_sent, with_use, write_judgement}
+use Rattle.gw_model.specs.File.{Failure, Phase, Live, Stale, Side, Writer, is_stale, ready_weight}
+use Rattle.gw_model.specs.Admission.{WriteRequest, CommitRequest, ReadRequest, WriteJudgement, Barred, Busy, Compared, Again, Taken, Repeat, Differs, Unanswered, Answered, Takes, CommitJudgement, CommitBarred, CommitBusy, Waits, Settles, commit_judgement, joined_hull, repeat_of, side_with_accepted, with_ready_sent, with_use, write_judgement}
 use Rattle.gw_model.specs.Ending.{hull_of_entries}
 use Rattle.gw_model.specs.Sides.{SideStep, side_commit_step, side_commit_step_by, side_give_up_step, side_hearing_step, side_hearing_step_in, side_pump_step, side_read_step, side_read_step_if, side_repeat_step, side_stale_step, side_turn_step, side_write_step, side_write_step_by}
 use Rattle.gw_model.specs.Bounds.{base_weight, max_waiting}

@@ -1,6 +1,6 @@
 -- The parts of a cell: where the Puts taken end, and that no part has an answer where the whole has none.
 use Rattle.std.proofs.Common.{◌≡◌, ℕ, ◌+◌, ◌<◌, ◌≤◌, ◌^◌, Option, List, [], ◌∷◌, ◌++◌, refl, ◌∙◌, ap, arith}
-use Rattle.gw_model.specs.File.{Answer, Writer}
+use Rattle.gw_model.specs.File.{Writer}
 use Rattle.job_line.specs.Items.{MayFollow, base_of, put_size, puts_size}
 use Rattle.job_line.specs.Ends.{SameContextOut, base_taken, jobs_taken, mark_taken}
 use Rattle.job_line.specs.declared.items.Job.{Job}

@@ -1,8 +1,8 @@
 -- A sync, for the writer side, the cell and the files that it stands for.
-use Rattle.std.proofs.Common.{◌≡◌, ℕ, ◌<◌, ◌≤◌, true, Option, false, min, List, [], ◌∷◌, ◌++◌, length, take, refl, sym, ◌∙◌, ap, subst, append-nil, arith}
+use Rattle.std.proofs.Common.{◌≡◌, ℕ, ◌≤◌, Option, false, min, List, [], ◌∷◌, ◌++◌, length, refl, sym, ◌∙◌, ap, subst, append-nil, arith}
 use Rattle.std.proofs.lemmas.List.{length-take}
-use Rattle.gw_model.specs.Order.{fold, is_covered, standing_writes}
-use Rattle.gw_model.specs.Ahead.{Outcomes, CallResult}
+use Rattle.gw_model.specs.Order.{fold}
+use Rattle.gw_model.specs.Ahead.{Outcomes}
 use Rattle.gw_model.specs.File.{Answer, File, Writer, content, pending_writes, reach_of}
 use Rattle.gw_model.specs.Admission.{goal_of}
 use Rattle.gw_model.specs.Writer.{WriterStep, sync_step, writer_sync_step}
@@ -21,7 +21,7 @@ use Rattle.writeback.specs.declared.owed.Synced.TheVariants.{Done, Failed}
 use Rattle.file_cell.proofs.Hearing.{sync_knows}
 use Rattle.file_cell.specs.State.{AdmitSideState, CellState, IsJoined, IsWithinTaken, WriterSideState, cell_of, writer_side_of}
 use Rattle.file_cell.specs.Steps.{CoversDurable, synced_cell, synced_side}
-use Rattle.file_cell.specs.Files.{CellLeads, StandsFor, SyncsFor}
+use Rattle.file_cell.specs.Files.{SyncsFor}
 use Rattle.file_cell.proofs.State.{admit_none, second_none, first_none}
 
 -- hsync, as a step of the definition's writer

@@ -1,8 +1,7 @@
 -- A tick, for the cell and the files that it stands for.
-use Rattle.std.proofs.Common.{◌≡◌, ℕ, Bool, not, List, [], ◌++◌, length, refl, sym, ◌∙◌, ap, subst}
-use Rattle.gw_model.specs.Ahead.{Outcomes}
-use Rattle.gw_model.specs.Ending.{TickJudgement, Stays, GivesUp, Closes, give_up_step, tick_judgement}
-use Rattle.gw_model.specs.File.{Answer, File, Side, Writer, is_empty, side_of}
+use Rattle.std.proofs.Common.{◌≡◌, ℕ, not, List, [], ◌++◌, length, refl, sym, ◌∙◌, ap, subst}
+use Rattle.gw_model.specs.Ending.{TickJudgement, Stays, GivesUp, Closes, tick_judgement}
+use Rattle.gw_model.specs.File.{Answer, Side, Writer, is_empty, side_of}
 use Rattle.gw_model.specs.Sides.{side_give_up_step}
 use Rattle.gw_model.proofs.Contents.{give_up_content}
 use Rattle.gw_model.proofs.Givings.{give_up_leads}
@@ -15,7 +14,7 @@ use Rattle.job_line.specs.declared.ends.LineIn.{LineIn}
 use Rattle.file_cell.proofs.Hearing.{tick_knows}
 use Rattle.file_cell.specs.State.{AdmitSideState, CellState, IsJoined, KnowsFailure, WriterSideState, cell_of}
 use Rattle.file_cell.specs.Steps.{ticked_admit, ticked_cell, ticked_of}
-use Rattle.file_cell.specs.Files.{CellLeads, CellTicks, StandsFor, tick_step}
+use Rattle.file_cell.specs.Files.{CellLeads, CellTicks, tick_step}
 use Rattle.file_cell.specs.declared.admit_side.Ticked.{Ticked}
 use Rattle.file_cell.specs.declared.admit_side.Ticked.TheVariants.{Nothing, GaveUp, Close}
 use Rattle.file_cell.proofs.State.{writer_none}

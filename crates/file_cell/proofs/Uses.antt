@@ -1,5 +1,5 @@
 -- What the steps of an admission side leave of the moment of the last use, and of the goals of the COMMITs that wait.
-use Rattle.std.proofs.Common.{◌≡◌, ℕ, suc, ◌+◌, ◌<◌, ◌≤◌, max, Bool, true, false, nat_lt, nat_le, nat_eq, Option, Some, None, List, [], ◌∷◌, ◌++◌, length, drop, refl, sym, ◌∙◌, ap, subst, arith, length-drop}
+use Rattle.std.proofs.Common.{◌≡◌, ℕ, ◌+◌, ◌<◌, ◌≤◌, max, Bool, true, false, nat_lt, nat_le, nat_eq, Option, Some, None, List, [], ◌∷◌, ◌++◌, length, drop, refl, sym, ◌∙◌, ap, subst, arith, length-drop}
 use Rattle.std.specs.Prelude.{if◌then◌else◌, ◌-◌, min, not, ◌&&◌, ◌||◌}
 use Rattle.gw_model.specs.declared.Stable.{Stable}
 use Rattle.gw_model.specs.declared.limits.Limits.{Limits}
@@ -7,7 +7,7 @@ use Rattle.gw_model.specs.Order.{Accepted, end_of, reach_past, with_write, write
 use Rattle.gw_model.specs.File as model
 use Rattle.gw_model.specs.File.{Answer, Failure, Phase, Live, Stale, Seen, Side, Waiting, is_empty, is_stale, ready_weight}
 use Rattle.gw_model.specs.Admission.{WriteRequest, CommitRequest, ReadRequest, WriteJudgement, Barred, Busy, Compared, Again, Taken, Repeat, Differs, Unanswered, Answered, Takes, CommitJudgement, CommitBarred, CommitBusy, Waits, Settles, commit_judgement, early_answers, goal_of, hull_bars, is_early, repeat_of, side_with_accepted, waiting_above, with_ready_sent, with_use, write_from, write_judgement}
-use Rattle.gw_model.specs.Sides.{SideStep, side_give_up_step, side_commit_step, side_commit_step_by, side_hearing_step, side_hearing_step_in, side_pump_step, side_read_step, side_read_step_if, side_repeat_step, side_stale_step, side_step_sent, side_write_step, side_write_step_by, with_first_changed, with_ticket}
+use Rattle.gw_model.specs.Sides.{SideStep, side_give_up_step, side_commit_step, side_commit_step_by, side_hearing_step, side_hearing_step_in, side_pump_step, side_read_step, side_read_step_if, side_repeat_step, side_stale_step, side_write_step, side_write_step_by, with_first_changed, with_ticket}
 use Rattle.gw_model.specs.Bounds.{base_weight}
 use Rattle.tickets.specs.Desk.{TicketId}
 use Rattle.job_line.specs.Ends.{mark_sent}
@@ -201,11 +201,14 @@ pub kept_after : (v : Verdict) (t : TicketId) (used moment : ℕ) (limits : Limi
 kept_after v t used moment limits mark a b told tells notes goals h = go v tells
   where
     moved : (answers : List Answer) → b ≡ step_state told b.line a → GoesOn a.line b.line → answers ≡ told.answers → (mark_sent b.line ≡ mark) × IsKept (last_use answers moment used) limits b
-    moved answers is on told_of = (on.0.2 ∙ h.0, record {
-      used = ap (λ xs. last_use xs moment used) told_of ∙ ap (λ n. last_use told.answers moment n) h.1.used ∙ notes ∙ sym (ap (λ (x : AdmitState). x.side.held.used) is);
-      limits = h.1.limits ∙ sym (ap (λ (x : AdmitState). x.limits) is);
-      goals = subst HasGoals (sym (ap (λ (x : AdmitState). x.side) is)) (goals h.1.goals);
-    })
+    moved answers is on told_of = (
+      on.0.2 ∙ h.0,
+      record {
+        used = ap (λ xs. last_use xs moment used) told_of ∙ ap (λ n. last_use told.answers moment n) h.1.used ∙ notes ∙ sym (ap (λ (x : AdmitState). x.side.held.used) is);
+        limits = h.1.limits ∙ sym (ap (λ (x : AdmitState). x.limits) is);
+        goals = subst HasGoals (sym (ap (λ (x : AdmitState). x.side) is)) (goals h.1.goals);
+      },
+    )
 
     go : (v : Verdict) → Tells v t a told b → (mark_sent b.line ≡ mark) × IsKept (last_use (verdict_answers v) moment used) limits b
     go (Reply answer) x = moved _ x.2 x.3 x.4
@@ -230,12 +233,14 @@ given_up_keeps used moment limits mark a b is h = subst (λ (x : AdmitState). (m
 
 pub pumped_keeps : (used : ℕ) (limits : Limits) (mark : Option Mark) (news : Option Failure) (a b : AdmitState) → b ≡ pump_state (side_pump_step a.limits news a.side) b.line a → GoesOn a.line b.line → (mark_sent a.line ≡ mark) × IsKept used limits a → (mark_sent b.line ≡ mark) × IsKept used limits b
 pumped_keeps used limits mark news a b is on h =
-    let keeps = pump_keeps a.limits news a.side h.1.goals in
-    (on.0.2 ∙ h.0, record {
-      used = h.1.used ∙ sym keeps.1 ∙ sym (ap (λ (x : AdmitState). x.side.held.used) is);
-      limits = h.1.limits ∙ sym (ap (λ (x : AdmitState). x.limits) is);
-      goals = subst HasGoals (sym (ap (λ (x : AdmitState). x.side) is)) keeps.0;
-    })
+    let keeps = pump_keeps a.limits news a.side h.1.goals in (
+      on.0.2 ∙ h.0,
+      record {
+        used = h.1.used ∙ sym keeps.1 ∙ sym (ap (λ (x : AdmitState). x.side.held.used) is);
+        limits = h.1.limits ∙ sym (ap (λ (x : AdmitState). x.limits) is);
+        goals = subst HasGoals (sym (ap (λ (x : AdmitState). x.side) is)) keeps.0;
+      },
+    )
 
 -- the goals need only what is seen and those that wait
 pub same_goals : (a b : AdmitState) → HasGoals a.side → b.side.seen ≡ a.side.seen → b.side.held.waiting ≡ a.side.held.waiting → HasGoals b.side

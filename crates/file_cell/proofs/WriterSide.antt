@@ -1,9 +1,8 @@
 -- A turn of the writer side.
 use Rattle.std.proofs.Common.{◌≡◌, ℕ, ◌+◌, ◌<◌, ◌≤◌, ◌^◌, Option, Some, None, List, [], ◌∷◌, ◌++◌, length, slice_get, refl, sym, ◌∙◌, ap, subst, append-nil, arith, length-take}
-use Rattle.std.specs.Prelude.{IfSome, IfNone}
 use Rattle.gw_model.specs.Ahead.{CallResult, Good, Bad}
 use Rattle.gw_model.specs.Bounds.{max_waiting}
-use Rattle.gw_model.specs.File.{Answer, Writer}
+use Rattle.gw_model.specs.File.{Writer}
 use Rattle.gw_model.specs.Views.{TraceState}
 use Rattle.job_line.specs.Items.{MayFollow, put_size}
 use Rattle.job_line.specs.Ends.{SameContextOut, base_taken, jobs_known, jobs_taken, mark_taken}
@@ -14,7 +13,7 @@ use Rattle.tickets.specs.declared.answer.Answer as spent
 use Rattle.tickets.specs.Answers.{answers_of}
 use Rattle.writeback.specs.State.{WriterSeen}
 use Rattle.writeback.specs.Steps.{Works, appended_bytes, put_bytes}
-use Rattle.file_cell.specs.State.{IsWithinTaken, WriterSideState, taken_end, writer_side_of}
+use Rattle.file_cell.specs.State.{IsWithinTaken, WriterSideState, writer_side_of}
 use Rattle.file_cell.specs.Steps.{SideTurns}
 use Rattle.file_cell.proofs.State.{end_after, end_within, synced_none}
 

@@ -208,7 +208,7 @@ impl<F: AppendFile, M: PendingMap> FileCell<F, M> {
         ensures stands { ClosesFor F.tells result self.old self.new }
     {
         let news = self.writer.news();
-        self.admit.pump_step(news);
+        let _ = self.admit.pump_step(news);
         self.writer.sync_step(trace)
     }
 

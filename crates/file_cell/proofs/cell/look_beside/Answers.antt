@@ -1,4 +1,4 @@
-use Rattle.std.proofs.Common.{◌≡◌, length, ◌∙◌, ap, sym}
+use Rattle.std.proofs.Common.{length, ◌∙◌, ap, sym}
 use Rattle.job_line.specs.Ends.{jobs_taken}
 use Rattle.file_cell.specs.State.{AdmitSideState, WriterSideState}
 use Rattle.file_cell.specs.Steps.{IsLooked}

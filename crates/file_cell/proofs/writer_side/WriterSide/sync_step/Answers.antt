@@ -1,4 +1,3 @@
-use Rattle.file_cell.proofs.State.{synced_none}
 use Rattle.file_cell.proofs.Syncs.{side_syncs, sync_within}
 use Rattle.file_cell.proofs.writer_side.WriterSide.sync_step.Goals as goal
 
