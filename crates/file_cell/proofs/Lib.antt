@@ -3,7 +3,6 @@ pub mod WriterSide
 pub mod Files
 pub mod Cells
 pub mod Syncs
-pub mod Uses
 pub mod Ticks
 pub mod Hearing
 pub mod Closings

@@ -1,21 +1,20 @@
 // The admission side of an open file.
-ghost use Rattle.std.specs.Prelude.{◌≡◌, ◌+◌, ◌-◌, ◌<◌, ◌≤◌, ◌^◌, ◌&&◌, ◌||◌, [], length, map, nat_le, not};
+ghost use Rattle.std.specs.Prelude.{◌≡◌, ◌+◌, ◌-◌, ◌<◌, ◌≤◌, ◌^◌, ◌&&◌, ◌||◌, [], length, map, nat_le};
 ghost use Rattle.gw_model.specs.Bounds.{end_limit, max_transfer};
 ghost use Rattle.gw_model.specs.Ending.{tick_judgement};
 ghost use Rattle.gw_model.specs.File.{is_empty, is_stale};
 ghost use Rattle.gw_model.specs.Sides.{side_pump_step};
 ghost use Rattle.job_line.specs.Ends.{SameContextIn, jobs_sent};
-ghost use Rattle.admit.specs.Calls.{Commits, Fetches, IsPumped, Pumps, TellsCommit, TellsRead, TellsWrite, Writes, news_of, pump_state, verdict_answers, with_heard};
+ghost use Rattle.admit.specs.Calls.{Commits, Fetches, IsPumped, Pumps, TellsCommit, TellsRead, TellsWrite, Writes, news_of, pump_state, with_heard};
 ghost use Rattle.admit.specs.GivenUp.{Hands};
 ghost use Rattle.admit.specs.Line.{GoesOn};
-ghost use Rattle.file_cell.specs.Steps.{is_quiet, is_unused, last_use, ticked_admit, ticked_of};
+ghost use Rattle.file_cell.specs.Steps.{is_quiet, ticked_admit, ticked_of};
 
 use admit::{Admit, CommitReq, News, Pumped, ReadReq, Verdict, WriteReq};
-use gw_model::status::NFS3ERR_IO;
-use gw_model::{FileId, Limits};
+use gw_model::FileId;
 use range_map::PendingMap;
 use std::marker::Model;
-use tickets::{Answer, Body};
+use tickets::Answer;
 
 /// What a tick did.
 #[derive(Clone, Copy, Debug, Drop, PartialEq, Eq)]
@@ -28,31 +27,6 @@ pub enum Ticked {
     Close,
 }
 
-// Whether a request that was met so was no use of its file.
-fn is_unused(verdict: &Verdict) -> bool
-    ensures { result ≡ is_unused (verdict_answers verdict.now) }
-{
-    match verdict {
-        Verdict::Reply(answer) => match &answer.body {
-            Body::Write { status, .. } => *status == NFS3ERR_IO,
-            Body::Commit { status } => *status == NFS3ERR_IO,
-            Body::Read { .. } => false,
-            Body::Text(_) => false,
-            Body::SystemErr => true,
-        },
-        Verdict::Held => false,
-        Verdict::Dropped(_) => false,
-        Verdict::NoMemory(_) => true,
-    }
-}
-
-// The moment of the last use, once a request was met so at a moment.
-fn last_use(verdict: &Verdict, moment: u64, used: u64) -> u64
-    ensures { result ≡ last_use (verdict_answers verdict.now) moment used }
-{
-    if is_unused(verdict) { used } else { moment }
-}
-
 /// The admission side of an open file, with the end of its line that sends: what may lie under a lock of its own.
 #[derive(Drop)]
 pub(crate) struct AdmitSide<M: PendingMap> {
@@ -60,19 +34,16 @@ pub(crate) struct AdmitSide<M: PendingMap> {
     // How many bytes the file had when it was opened.
     pub(crate) base: u64,
     pub(crate) admit: Admit<M>,
-    // The limits and the moment of the last use, as the side has them.
-    pub(crate) limits: Limits,
-    pub(crate) used: u64,
 }
 
 impl<M: PendingMap> Model for AdmitSide<M> {
-    ghost use Rattle.file_cell.specs.State.{AdmitSideState, IsKept, IsMarked};
+    ghost use Rattle.file_cell.specs.State.{AdmitSideState, IsMarked};
 
     ghost Value = { AdmitSideState };
 
     ghost view = { λ a. record { id = a.id; base = a.base; admit = a.admit } };
 
-    ghost invariant = { λ a. IsMarked (record { id = a.id; base = a.base; admit = a.admit }) × IsKept a.used a.limits a.admit };
+    ghost invariant = { λ a. IsMarked (record { id = a.id; base = a.base; admit = a.admit }) };
 }
 
 impl<M: PendingMap> AdmitSide<M> {
@@ -84,10 +55,7 @@ impl<M: PendingMap> AdmitSide<M> {
         ensures stands { Writes result self.old.admit request self.new.admit }
         ensures rest { self.new ≡ record self.old { admit = self.new.admit } }
     {
-        let moment = request.moment;
-        let verdict = self.admit.receive(request);
-        self.used = last_use(&verdict, moment, self.used);
-        verdict
+        self.admit.receive(request)
     }
 
     /// Takes a COMMIT in. Takes memory.
@@ -96,10 +64,7 @@ impl<M: PendingMap> AdmitSide<M> {
         ensures stands { Commits result self.old.admit request self.new.admit }
         ensures rest { self.new ≡ record self.old { admit = self.new.admit } }
     {
-        let moment = request.moment;
-        let verdict = self.admit.commit(request);
-        self.used = last_use(&verdict, moment, self.used);
-        verdict
+        self.admit.commit(request)
     }
 
     /// Takes a READ in. Takes memory.
@@ -108,31 +73,21 @@ impl<M: PendingMap> AdmitSide<M> {
         ensures stands { Fetches result self.old.admit request self.new.admit }
         ensures rest { self.new ≡ record self.old { admit = self.new.admit } }
     {
-        let moment = request.moment;
-        let verdict = self.admit.fetch(request);
-        self.used = last_use(&verdict, moment, self.used);
-        verdict
+        self.admit.fetch(request)
     }
 
     // Whether the file wasn't used for as long as the limits give.
     fn is_unused_at(&self, moment: u64) -> bool
         ensures { result ≡ nat_le self.now.admit.limits.timeout_ms (moment - self.now.admit.side.held.used) }
     {
-        moment.saturating_sub(self.used) >= self.limits.timeout_ms
+        moment.saturating_sub(self.admit.used()) >= self.admit.limits().timeout_ms
     }
 
     // Whether as many writes were accepted as may be.
     fn is_full(&self) -> bool
         ensures { result ≡ nat_le self.now.admit.limits.history (length self.now.admit.side.seen.entries) }
     {
-        self.admit.history().len() as u64 >= self.limits.history
-    }
-
-    // Whether a write is pending or a COMMIT waits. Where nothing is pending, no COMMIT waits.
-    fn is_awaiting(&self) -> bool
-        ensures { result ≡ not (is_empty self.now.admit.side.seen.pending && is_empty self.now.admit.side.held.waiting) }
-    {
-        self.admit.pending().len() > 0
+        self.admit.history().len() as u64 >= self.admit.limits().history
     }
 
     // Whether an idle file is to be closed, by whether it wasn't used.
@@ -152,7 +107,7 @@ impl<M: PendingMap> AdmitSide<M> {
         if self.is_quiet() && !owes && self.is_over(unused) {
             return Ticked::Close;
         }
-        if unused && self.is_awaiting() {
+        if unused && self.admit.is_awaiting() {
             return Ticked::GaveUp;
         }
         Ticked::Nothing
@@ -169,7 +124,6 @@ impl<M: PendingMap> AdmitSide<M> {
         let ticked = self.judge_tick(moment, owes);
         if ticked == Ticked::GaveUp {
             self.admit.give_up(moment);
-            self.used = moment;
         }
         ticked
     }
@@ -209,7 +163,7 @@ impl<M: PendingMap> AdmitSide<M> {
     pub(crate) fn used(&self) -> u64
         ensures { result ≡ self.now.admit.side.held.used }
     {
-        self.used
+        self.admit.used()
     }
 
     /// Whether the file takes no writes any more.

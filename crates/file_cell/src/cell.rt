@@ -90,8 +90,6 @@ impl<F: AppendFile, M: PendingMap> FileCell<F, M> {
                     id: file,
                     base,
                     admit,
-                    limits,
-                    used: moment,
                 },
                 writer: WriterSide {
                     writer,
