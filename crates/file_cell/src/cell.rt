@@ -8,11 +8,12 @@ ghost use Rattle.admit.specs.GivenUp.{Hands};
 ghost use Rattle.admit.specs.Line.{GoesOn, next_jobs};
 ghost use Rattle.job_line.specs.Ends.{IsOneContext, jobs_known, jobs_sent, jobs_taken, line_slots};
 ghost use Rattle.writeback.specs.State.{file_seen};
-ghost use Rattle.writeback.specs.Steps.{IsDurable, Leaves, sync_call, with_calls};
+ghost use Rattle.writeback.specs.Steps.{IsDurable, Leaves, plain_call, sync_call, with_calls};
+ghost use Rattle.writeback.specs.declared.owed.Synced.TheVariants.{Failed};
 ghost use Rattle.file_cell.specs.State.{HasHeard};
 ghost use Rattle.file_cell.specs.Files.{CellCommits, CellFetches, CellPumps, CellTicks, CellWrites, ClosesFor, StandsFor, SyncsFor};
 ghost use Rattle.file_cell.specs.History.{history_of_ended};
-ghost use Rattle.file_cell.specs.Steps.{CellIsPumped, CellTellsCommit, CellTellsRead, CellTellsWrite, CoversDurable, IsBack, IsEnded, IsJustOpened, IsLineBack, IsLooked, IsStepped, counted_admit, closing_cell, is_cell_idle, pumped_cell, synced_cell, ticked_cell, ticked_of};
+ghost use Rattle.file_cell.specs.Steps.{CellIsPumped, CellTellsCommit, CellTellsRead, CellTellsWrite, CoversDurable, IsBack, IsClosed, IsEnded, IsJustOpened, IsLineBack, IsLooked, IsStepped, counted_admit, closing_cell, is_cell_idle, pumped_cell, synced_cell, ticked_cell, ticked_of};
 
 use crate::admit_side::{AdmitSide, Ticked};
 use crate::closed::{Closed, Ended};
@@ -208,6 +209,25 @@ impl<F: AppendFile, M: PendingMap> FileCell<F, M> {
         let news = self.writer.news();
         let _ = self.admit.pump_step(news);
         self.writer.sync_step(trace)
+    }
+
+    /// Closes an idle file: hears of the writer, makes what is stored durable by one call of hsync, and gives the parts back.
+    /// Where hsync failed the file stays open, and comes back. The trace has room for a note. Takes no memory.
+    pub fn close(self, trace: &mut Trace) -> Result<Closed<F>, FileCell<F, M>>
+        requires idle { is_cell_idle self ≡ true }
+        requires none_left { self.left ≡ [] }
+        requires noted { 0 < trace.old.room }
+        ensures ok { let seen = file_seen F.mark F.content F.durable F.count F.tally in
+            IfOk result (λ c. IsClosed F.tells self (seen c.body) c.line.0 c.line.1 c.stored c.hull c.changed c.ended) }
+        ensures err { IfErr result (λ cell. cell ≡ closing_cell Failed cell.file cell.input self) }
+        ensures stands { IfErr result (λ cell. ClosesFor F.tells Failed self cell) }
+        ensures notes { trace.new ≡ with_calls (plain_call result ∷ []) trace.old }
+    {
+        let mut cell = self;
+        match cell.close_step(trace) {
+            Synced::Done => Ok(cell.into_parts()),
+            Synced::Failed => Err(cell),
+        }
     }
 
     /// The moment of the last use of the file, or when it was opened.
