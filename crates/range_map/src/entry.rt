@@ -1,4 +1,5 @@
 // One pending write.
+use crate::EntryKey;
 use bytes::Bytes;
 use gw_model::Stable;
 use spill_region::Extent;
@@ -10,6 +11,18 @@ pub enum Place {
     Memory(Bytes),
     /// In this extent of the file's spill region.
     Spilled(Extent),
+}
+
+impl Place {
+    ghost use Rattle.std.specs.Prelude.{◌≡◌};
+    ghost use Rattle.range_map.specs.Entries.{lies_in_memory};
+
+    /// Whether the bytes are in memory.
+    pub fn is_in_memory(&self) -> bool
+        ensures { result ≡ lies_in_memory self.now }
+    {
+        matches!(self, Place::Memory(_))
+    }
 }
 
 /// An accepted write that begins behind a hole.
@@ -26,4 +39,19 @@ pub struct Entry {
     pub stable: Stable,
     /// The reply that is owed, unless the write was answered when it was accepted.
     pub ticket: Option<Ticket>,
+}
+
+impl Entry {
+    ghost use Rattle.std.specs.Prelude.{◌≡◌};
+    ghost use Rattle.range_map.specs.Keys.{entry_key};
+
+    /// Its key.
+    pub fn key(&self) -> EntryKey
+        ensures { result ≡ entry_key self.now }
+    {
+        EntryKey {
+            offset: self.offset,
+            number: self.number,
+        }
+    }
 }

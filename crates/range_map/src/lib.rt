@@ -3,14 +3,18 @@
 #![tactic(auto)]
 
 mod entry;
+mod key;
 mod laws;
 mod pending;
 mod sorted_vec;
+mod tree;
 
 pub use entry::{Entry, Place};
+pub use key::EntryKey;
 pub use laws::order_laws;
 pub use pending::PendingMap;
 pub use sorted_vec::SortedVecMap;
+pub use tree::TreeMap;
 
 #[cfg(test)]
 mod tests;

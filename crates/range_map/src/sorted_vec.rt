@@ -1,6 +1,6 @@
 // Pending writes in a sorted vector.
 ghost use Rattle.std.specs.Prelude.{◌≡◌, ◌≤◌, ◌++◌, ◌∷◌, true, length, take, drop, position, slice_get, IsSome};
-ghost use Rattle.range_map.specs.Entries.{entry_at, is_at, is_before, is_in_order, lies_in_memory, with_entry};
+ghost use Rattle.range_map.specs.Entries.{entry_at, is_at, is_before, is_in_order, with_entry};
 
 use crate::{Entry, PendingMap, Place};
 use gw_model::Stable;
@@ -55,13 +55,6 @@ fn place_of(offset: u64, number: u32, items: &[Entry]) -> usize
     }
 }
 
-// Whether the bytes are in memory.
-fn lies_in_memory(place: &Place) -> bool
-    ensures { result ≡ lies_in_memory place.now }
-{
-    matches!(place, Place::Memory(_))
-}
-
 impl PendingMap for SortedVecMap {
     ghost entries = { λ m. m.items.items };
 
@@ -109,7 +102,7 @@ impl PendingMap for SortedVecMap {
         self.items
             .iter()
             .rev()
-            .find(|entry| lies_in_memory(&entry.place))
+            .find(|entry| entry.place.is_in_memory())
     }
 
     fn set_place(&mut self, offset: u64, number: u32, place: Place) -> Place {
