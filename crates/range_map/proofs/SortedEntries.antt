@@ -11,11 +11,11 @@ use Rattle.range_map.specs.Laws.{with_newest}
 
 -- Tests.
 
-and_true : (a b : Bool) → a && b ≡ true → (a ≡ true) × (b ≡ true)
+pub and_true : (a b : Bool) → a && b ≡ true → (a ≡ true) × (b ≡ true)
 and_true true b h = (refl, h)
 and_true false b h = absurd (cc)
 
-both_true : (a b : Bool) → a ≡ true → b ≡ true → a && b ≡ true
+pub both_true : (a b : Bool) → a ≡ true → b ≡ true → a && b ≡ true
 both_true a b p q = rw (p, q) refl
 
 -- Two entries.
@@ -27,15 +27,15 @@ before_other : (a b : Entry) → not (a.number == b.number) ≡ true → is_befo
 before_other a b n p = grind (arith, nat_tests)
 
 -- an offset and a number name one entry at most
-not_at_later : (offset number : ℕ) (a b : Entry) → is_before a b ≡ true → is_at offset number a ≡ true → is_at offset number b ≡ false
+pub not_at_later : (offset number : ℕ) (a b : Entry) → is_before a b ≡ true → is_at offset number a ≡ true → is_at offset number b ≡ false
 not_at_later offset number a b p q = grind (arith, nat_tests)
 
-not_at_sooner : (offset number : ℕ) (a b : Entry) → is_before a b ≡ true → is_at offset number b ≡ true → is_at offset number a ≡ false
+pub not_at_sooner : (offset number : ℕ) (a b : Entry) → is_before a b ≡ true → is_at offset number b ≡ true → is_at offset number a ≡ false
 not_at_sooner offset number a b p q = grind (arith, nat_tests)
 
 -- One more entry.
 
-before_all : (a b : Entry) (es : List Entry) → is_before a b ≡ true → list_all (is_before b) es ≡ true → list_all (is_before a) es ≡ true
+pub before_all : (a b : Entry) (es : List Entry) → is_before a b ≡ true → list_all (is_before b) es ≡ true → list_all (is_before a) es ≡ true
 before_all a b [] p h = refl
 before_all a b (x ∷ xs) p h =
     let q = and_true (is_before b x) (list_all (is_before b) xs) h in
@@ -81,28 +81,26 @@ inserted-in_order false e es new k h fresh put is = ap is_in_order is ∙ h
 
 -- Entries are changed, and keep their offsets and numbers.
 
-Keeps : (Entry → Entry) → Type 0
+abbrev pub Keeps : (Entry → Entry) → Type 0
 Keeps f = (e : Entry) → ((f e).offset ≡ e.offset) × ((f e).number ≡ e.number)
 
 before-kept : (f : Entry → Entry) → Keeps f → (a b : Entry) → is_before (f a) (f b) ≡ is_before a b
-unfolding Keeps
 before-kept f k a b = rw ((k a).0, (k a).1, (k b).0, (k b).1) refl
 
 all_before-map : (f : Entry → Entry) → Keeps f → (x : Entry) (es : List Entry) → list_all (is_before (f x)) (map f es) ≡ list_all (is_before x) es
 all_before-map f k x [] = refl
 all_before-map f k x (y ∷ ys) = rw (before-kept f k x y, all_before-map f k x ys) refl
 
-in_order-map : (f : Entry → Entry) → Keeps f → (es : List Entry) → is_in_order (map f es) ≡ is_in_order es
+pub in_order-map : (f : Entry → Entry) → Keeps f → (es : List Entry) → is_in_order (map f es) ≡ is_in_order es
 in_order-map f k [] = refl
 in_order-map f k (x ∷ xs) = rw (all_before-map f k x xs, in_order-map f k xs) refl
 
 -- The entry of a name is changed.
 
-abbrev changed : ℕ → ℕ → (Entry → Entry) → Entry → Entry
+abbrev pub changed : ℕ → ℕ → (Entry → Entry) → Entry → Entry
 changed offset number f e = if is_at offset number e then f e else e
 
-changed-keeps : (offset number : ℕ) (f : Entry → Entry) → Keeps f → Keeps (changed offset number f)
-unfolding Keeps
+pub changed-keeps : (offset number : ℕ) (f : Entry → Entry) → Keeps f → Keeps (changed offset number f)
 changed-keeps offset number f k e =
     let go : (b : Bool) → is_at offset number e ≡ b → ((changed offset number f e).offset ≡ e.offset) × ((changed offset number f e).number ≡ e.number) = elim [
       | true ↦ λ is. rw is (k e)
@@ -111,7 +109,7 @@ changed-keeps offset number f k e =
     go (is_at offset number e) refl
 
 -- behind it nothing has its name
-none_changed : (offset number : ℕ) (f : Entry → Entry) (x : Entry) (es : List Entry) → list_all (is_before x) es ≡ true → is_at offset number x ≡ true
+pub none_changed : (offset number : ℕ) (f : Entry → Entry) (x : Entry) (es : List Entry) → list_all (is_before x) es ≡ true → is_at offset number x ≡ true
     → map (changed offset number f) es ≡ es
 none_changed offset number f x [] h at = refl
 none_changed offset number f x (y ∷ ys) h at =
@@ -177,7 +175,6 @@ set-found offset number f es k e h here some at =
 -- and all stays in order
 pub set-in_order : (offset number : ℕ) (f : Entry → Entry) (es : List Entry) (k : ℕ) (e : Entry) → is_in_order es ≡ true → slice_get es k ≡ find (is_at offset number) es
     → IsSome (find (is_at offset number) es) → e ≡ get_or es k e → ((x : Entry) → ((f x).offset ≡ x.offset) × ((f x).number ≡ x.number)) → is_in_order (slice_set es k (f e)) ≡ true
-unfolding Keeps
 set-in_order offset number f es k e h here some at keeps =
     ap is_in_order (set-found offset number f es k e h here some at) ∙ (in_order-map (changed offset number f) (changed-keeps offset number f keeps) es ∙ h)
 

@@ -1,12 +1,12 @@
 // Pending writes in ordered trees.
-ghost use Rattle.std.specs.Prelude.{◌≡◌, true};
+ghost use Rattle.std.specs.Prelude.{◌≡◌, true, OnOk, OnErr};
 ghost use Rattle.std.specs.BTreeMap.{values};
 ghost use Rattle.range_map.specs.Entries.{is_in_order};
-ghost use Rattle.range_map.specs.Keys.{memory_keys, with_keys};
+ghost use Rattle.range_map.specs.Keys.{memory_keys, moved_keys, with_keys, with_memory_key};
 
 use crate::{Entry, EntryKey, PendingMap, Place};
 use gw_model::Stable;
-use std::alloc::Global;
+use std::alloc::{AllocError, Global};
 use std::collections::{BTreeMap, BTreeSet};
 use std::mem::replace;
 use tickets::Ticket;
@@ -19,6 +19,26 @@ pub struct TreeMap {
     ghost keyed: { entries.entries ≡ with_keys (values entries) },
     ghost ordered: { is_in_order (values entries) ≡ true },
     ghost listed: { in_memory.keys ≡ memory_keys (values entries) },
+}
+
+// Adds the key of an entry that is in memory. Takes memory.
+fn add_key(keys: &mut BTreeSet<EntryKey>, entry: &Entry) -> Result<(), AllocError>
+    ensures ok { OnOk result (keys.new.keys ≡ with_memory_key entry.now keys.old.keys) }
+    ensures err { OnErr result (keys.new.keys ≡ keys.old.keys) }
+{
+    if entry.place.is_in_memory() {
+        keys.insert(entry.key())?;
+    }
+    Ok(())
+}
+
+// Takes the key of an entry away whose bytes go to this place, unless they stay in memory.
+fn move_key(keys: &mut BTreeSet<EntryKey>, key: EntryKey, place: &Place)
+    ensures { keys.new.keys ≡ moved_keys key place.now keys.old.keys }
+{
+    if !place.is_in_memory() {
+        keys.remove(&key);
+    }
 }
 
 impl PendingMap for TreeMap {
@@ -34,10 +54,10 @@ impl PendingMap for TreeMap {
     }
 
     fn insert(&mut self, entry: Entry) -> Result<(), Entry> {
-        let key = entry.key();
-        if entry.place.is_in_memory() && self.in_memory.insert(key).is_err() {
+        if add_key(&mut self.in_memory, &entry).is_err() {
             return Err(entry);
         }
+        let key = entry.key();
         match self.entries.insert(key, entry) {
             Ok(_) => Ok(()),
             Err(refused) => {
@@ -73,9 +93,12 @@ impl PendingMap for TreeMap {
 
     fn give_ticket(&mut self, offset: u64, number: u32, stable: Stable, ticket: Ticket) {
         let key = EntryKey { offset, number };
-        if let Some(entry) = self.entries.get_mut(&key) {
-            entry.stable = stable;
-            entry.ticket = Some(ticket);
+        match self.entries.get_mut(&key) {
+            Some(entry) => {
+                entry.stable = stable;
+                entry.ticket = Some(ticket);
+            }
+            None => unreachable!(),
         }
     }
 
@@ -85,9 +108,7 @@ impl PendingMap for TreeMap {
 
     fn set_place(&mut self, offset: u64, number: u32, place: Place) -> Place {
         let key = EntryKey { offset, number };
-        if !place.is_in_memory() {
-            self.in_memory.remove(&key);
-        }
+        move_key(&mut self.in_memory, key, &place);
         match self.entries.get_mut(&key) {
             Some(entry) => replace(&mut entry.place, place),
             None => unreachable!(),
