@@ -1,6 +1,6 @@
 -- Entries by their keys: the tree of the entries, and the tree of the keys of those in memory.
 use Rattle.std.proofs.Common.{◌≡◌, ℕ, zero, suc, Bool, true, false, cond, Option, Some, None, List, [], ◌∷◌, ◌++◌, map, length, ◌<◌, ◌≤◌, ◌-◌, max, min, drop, refl, sym, ap, ◌∙◌, arith, Less, Equal, Greater, Ordering}
-use Rattle.std.specs.Prelude.{◌==◌, ◌&&◌, not, nat_lt, nat_le, find, filter, reverse, slice_get, if◌then◌else◌}
+use Rattle.std.specs.Prelude.{◌==◌, ◌&&◌, not, nat_lt, nat_le, find, filter, reverse, slice_get, IsSomeAnd, if◌then◌else◌}
 use Rattle.std.specs.List.{list_all}
 use Rattle.std.specs.Map.{lookup, remove_entry, set_value, values_of}
 use Rattle.std.specs.Set.{remove_key}
@@ -14,9 +14,11 @@ use Rattle.std.proofs.lemmas.List.Folds.{find-append}
 use Rattle.std.proofs.lemmas.Option.{slice_get-get_or, slice_get-map, slice_get_past}
 use Rattle.std.proofs.lemmas.Bool.Decides.{nat_tests}
 use Rattle.range_map.specs.declared.entry.Entry.{Entry}
+use Rattle.range_map.specs.declared.entry.Place.{Place}
+use Rattle.range_map.specs.declared.entry.Place.TheVariants.{Memory, Spilled}
 use Rattle.range_map.specs.declared.key.EntryKey.{EntryKey}
-use Rattle.range_map.specs.Entries.{is_before, is_in_order, is_new, is_in_memory, with_entry, is_at, entry_at, has_range, entry_end, commit_goal}
-use Rattle.range_map.specs.Keys.{key_cmp, entry_key, with_keys, memory_keys, with_memory_key}
+use Rattle.range_map.specs.Entries.{is_before, is_in_order, is_new, is_in_memory, with_entry, is_at, entry_at, has_range, entry_end, commit_goal, lies_in_memory, MayReplace}
+use Rattle.range_map.specs.Keys.{key_cmp, entry_key, with_keys, memory_keys, with_memory_key, moved_keys}
 use Rattle.range_map.proofs.SortedEntries.{and_true, both_true, before_all, changed, changed-keeps, none_changed, not_at_sooner, in_order-map, put_in-in_order, Keeps}
 
 -- Two keys.
@@ -335,14 +337,15 @@ undone e old new keys more left a fresh is listed gone =
     agree new left (values_of old) (is ∙ a.keyed) a.ordered all
 
 -- an entry is changed
-pub record IsSet (offset number : ℕ) (f : Entry → Entry) (new : List (EntryKey × Entry)) (keys : List EntryKey) (es : List Entry) : Type 0 where
+pub record IsSet (offset number : ℕ) (f : Entry → Entry) (e : Entry) (new : List (EntryKey × Entry)) (keys : List EntryKey) (es : List Entry) : Type 0 where
+  pub here : entry_at offset number es ≡ Some e
   pub values : values_of new ≡ map (changed offset number f) es
   pub agree : Agree new keys
 
 pub set : (offset number : ℕ) (f : Entry → Entry) (e : Entry) (old new : List (EntryKey × Entry)) (keys left : List EntryKey) → Keeps f → Agree old keys
     → lookup (is_found (key_cmp (record { offset = offset; number = number }))) old ≡ Some e
     → new ≡ set_value (is_found (key_cmp (record { offset = offset; number = number }))) old (f e)
-    → (entry_at offset number (values_of old) ≡ Some e → left ≡ memory_keys (map (changed offset number f) (values_of old))) → IsSet offset number f new left (values_of old)
+    → (entry_at offset number (values_of old) ≡ Some e → left ≡ memory_keys (map (changed offset number f) (values_of old))) → IsSet offset number f e new left (values_of old)
 set offset number f e old new keys left k a found is listed =
     let here : entry_at offset number (values_of old) ≡ Some e =
         sym (found_at offset number (values_of old)) ∙ (ap (lookup (is_found (key_cmp (record { offset = offset; number = number })))) (sym a.keyed) ∙ found) in
@@ -351,9 +354,36 @@ set offset number f e old new keys left k a found is listed =
         ∙ put_value offset number f (values_of old) e k a.ordered here) in
     let sorted = in_order-map (changed offset number f) (changed-keeps offset number f k) (values_of old) ∙ a.ordered in
     record {
+      here = here;
       values = ap values_of all ∙ values-with_keys (map (changed offset number f) (values_of old));
       agree = agree new left (map (changed offset number f) (values_of old)) all sorted (listed here);
     }
+
+-- a place is taken by another
+may_replace : (old new : Place) → MayReplace old new → lies_in_memory new ≡ true → lies_in_memory old ≡ true
+may_replace (Memory bytes) new may h = refl
+may_replace (Spilled extent) (Memory bytes) may h = absurd may
+may_replace (Spilled extent) (Spilled another) may h = h
+
+pub moved : (offset number : ℕ) (place : Place) (e : Entry) (es : List Entry) (keys left : List EntryKey) → is_in_order es ≡ true
+    → IsSomeAnd (entry_at offset number es) (λ x. MayReplace x.place place) → keys ≡ memory_keys es → left ≡ moved_keys (record { offset = offset; number = number }) place keys
+    → entry_at offset number es ≡ Some e → left ≡ memory_keys (map (changed offset number (λ x. record x { place = place })) es)
+moved offset number place e es keys left h may listed gone here =
+    let f : Entry → Entry = λ x. record x { place = place } in
+    let allowed : MayReplace e.place place = rw here at may in
+    let go : (b : Bool) → lies_in_memory place ≡ b → moved_keys (record { offset = offset; number = number }) place (memory_keys es) ≡ memory_keys (map (changed offset number f) es) = elim [
+      | true ↦ λ is.
+          let stays : is_in_memory (f e) ≡ is_in_memory e = is ∙ sym (may_replace e.place place allowed is) in
+          rw is (sym (kept_keys offset number f es e (λ x. (refl, refl)) h here stays))
+      | false ↦ λ is. rw is (spilled_keys offset number f es h (λ x. is))
+    ] in
+    gone ∙ (ap (moved_keys (record { offset = offset; number = number }) place) listed ∙ go (lies_in_memory place) refl)
+
+-- a key that isn't there names no entry
+pub missing : (offset number : ℕ) (entries : List (EntryKey × Entry)) (keys : List EntryKey) → Agree entries keys
+    → None ≡ lookup (is_found (key_cmp (record { offset = offset; number = number }))) entries → entry_at offset number (values_of entries) ≡ None
+missing offset number entries keys a none =
+    sym (found_at offset number (values_of entries)) ∙ (ap (lookup (is_found (key_cmp (record { offset = offset; number = number })))) (sym a.keyed) ∙ sym none)
 
 -- The last entry in memory.
 
@@ -530,14 +560,6 @@ seek offset count entries rest keys a is =
       from = ap (list_all t) same ∙ filter-all t (values_of entries);
     }
 
--- one that hasn't the range is passed over
-pub seek_on : (offset count : ℕ) (all : List Entry) (e : Entry) (rest : List Entry) → IsSought offset count all (e ∷ rest) → has_range offset count e ≡ false → IsSought offset count all rest
-seek_on offset count all e rest s other = record {
-  found = s.found ∙ rw other refl;
-  ordered = (and_true (list_all (is_before e) rest) (is_in_order rest) s.ordered).1;
-  from = (and_true (nat_le offset e.offset) (list_all (λ x. nat_le offset x.offset) rest) s.from).1;
-}
-
 beyond_range : (offset count : ℕ) (e : Entry) → nat_lt offset e.offset ≡ true → has_range offset count e ≡ false
 beyond_range offset count e h = grind (arith, nat_tests)
 
@@ -556,11 +578,11 @@ all_beyond offset e (x ∷ xs) h b =
     let q = and_true (is_before e x) (list_all (is_before e) xs) b in
     both_true _ _ (beyond_later offset e x h q.0) (all_beyond offset e xs h q.1)
 
-beyond_here : (offset : ℕ) (e : Entry) → nat_le offset e.offset ≡ true → e.offset == offset ≡ false → nat_lt offset e.offset ≡ true
+beyond_here : (offset : ℕ) (e : Entry) → nat_le offset e.offset ≡ true → (e.offset ≡ offset → ⊥) → nat_lt offset e.offset ≡ true
 beyond_here offset e h n = grind (arith, nat_tests)
 
 -- behind one of another offset there is none
-pub seek_past : (offset count : ℕ) (all : List Entry) (e : Entry) (rest : List Entry) → IsSought offset count all (e ∷ rest) → e.offset == offset ≡ false → find (has_range offset count) all ≡ None
+pub seek_past : (offset count : ℕ) (all : List Entry) (e : Entry) (rest : List Entry) → IsSought offset count all (e ∷ rest) → (e.offset ≡ offset → ⊥) → find (has_range offset count) all ≡ None
 seek_past offset count all e rest s other =
     let o = and_true (list_all (is_before e) rest) (is_in_order rest) s.ordered in
     let f = and_true (nat_le offset e.offset) (list_all (λ x. nat_le offset x.offset) rest) s.from in
@@ -590,9 +612,6 @@ pub record IsGoal (limit goal : ℕ) (all rest : List Entry) : Type 0 where
 max_zero : (n : ℕ) → n ≡ max 0 n
 max_zero n = omega arith
 
-max-assoc : (a b d : ℕ) → max a (max b d) ≡ max (max a b) d
-max-assoc a b d = omega arith
-
 pub aim : (limit : ℕ) (entries rest : List (EntryKey × Entry)) (keys : List EntryKey) → Agree entries keys
     → rest ≡ entries_between key_cmp Unbounded (Excluded (record { offset = limit; number = 0 })) entries → IsGoal limit 0 (values_of entries) (values_of rest)
 aim limit entries rest keys a is =
@@ -603,13 +622,4 @@ aim limit entries rest keys a is =
     record {
       so_far = goal-below limit (values_of entries) ∙ (ap (commit_goal limit) (sym same) ∙ max_zero (commit_goal limit (values_of rest)));
       below = ap (list_all t) same ∙ filter-all t (values_of entries);
-    }
-
-pub aim_on : (limit goal : ℕ) (all : List Entry) (e : Entry) (rest : List Entry) → IsGoal limit goal all (e ∷ rest) → IsGoal limit (max goal (min (entry_end e) limit)) all rest
-aim_on limit goal all e rest g =
-    let q = and_true (nat_lt e.offset limit) (list_all (λ x. nat_lt x.offset limit) rest) g.below in
-    let here : commit_goal limit (e ∷ rest) ≡ max (min (entry_end e) limit) (commit_goal limit rest) = rw q.0 refl in
-    record {
-      so_far = g.so_far ∙ (ap (max goal) here ∙ max-assoc goal (min (entry_end e) limit) (commit_goal limit rest));
-      below = q.1;
     }
