@@ -1,3 +1,4 @@
+pub mod Calls
 pub mod Entries
 pub mod Keys
 pub mod Laws

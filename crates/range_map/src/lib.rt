@@ -2,6 +2,7 @@
 //! then by number.
 #![tactic(auto)]
 
+mod calls;
 mod entry;
 mod key;
 mod laws;
@@ -9,6 +10,7 @@ mod pending;
 mod sorted_vec;
 mod tree;
 
+pub use calls::{MapAnswer, MapCall, make_call, make_calls, make_calls_twice};
 pub use entry::{Entry, Place};
 pub use key::EntryKey;
 pub use laws::order_laws;
