@@ -1,8 +1,8 @@
 -- Entries by their keys: the tree of the entries, and the tree of the keys of those in memory.
-use Rattle.std.proofs.Common.{◌≡◌, ℕ, zero, suc, Bool, true, false, cond, Option, Some, None, List, [], ◌∷◌, ◌++◌, map, length, ◌<◌, ◌≤◌, ◌-◌, max, min, drop, refl, sym, ap, ◌∙◌, arith, Less, Equal, Greater, Ordering}
-use Rattle.std.specs.Prelude.{◌==◌, ◌&&◌, not, nat_lt, nat_le, find, filter, reverse, slice_get, IsSomeAnd, if◌then◌else◌}
+use Rattle.std.proofs.Common.{◌≡◌, ℕ, suc, Bool, true, false, cond, Option, Some, None, List, [], ◌∷◌, map, length, ◌<◌, ◌≤◌, ◌-◌, max, min, drop, refl, sym, ap, ◌∙◌, arith, Less, Equal, Greater, Ordering}
+use Rattle.std.specs.Prelude.{◌==◌, not, nat_lt, nat_le, find, filter, reverse, slice_get, IsSomeAnd}
 use Rattle.std.specs.List.{list_all}
-use Rattle.std.specs.Map.{lookup, remove_entry, set_value, values_of}
+use Rattle.std.specs.Map.{lookup, set_value, values_of}
 use Rattle.std.specs.Set.{remove_key}
 use Rattle.std.specs.BTreeMap.{insert_entry, is_at as is_found}
 use Rattle.std.specs.BTreeSet.{insert_key}
@@ -16,6 +16,7 @@ use Rattle.std.proofs.lemmas.Bool.Decides.{nat_tests}
 use Rattle.range_map.specs.declared.entry.Entry.{Entry}
 use Rattle.range_map.specs.declared.entry.Place.{Place}
 use Rattle.range_map.specs.declared.entry.Place.TheVariants.{Memory, Spilled}
+use Rattle.range_map.specs.declared.tree.TreeMap.{TreeMap}
 use Rattle.range_map.specs.declared.key.EntryKey.{EntryKey}
 use Rattle.range_map.specs.Entries.{is_before, is_in_order, is_new, is_in_memory, with_entry, is_at, entry_at, has_range, entry_end, commit_goal, lies_in_memory, MayReplace}
 use Rattle.range_map.specs.Keys.{key_cmp, entry_key, with_keys, memory_keys, with_memory_key, moved_keys}
@@ -55,6 +56,10 @@ pub record Agree (entries : List (EntryKey × Entry)) (keys : List EntryKey) : T
   pub keyed : entries ≡ with_keys (values_of entries)
   pub ordered : is_in_order (values_of entries) ≡ true
   pub listed : keys ≡ memory_keys (values_of entries)
+
+-- the trees of a map
+pub agreed : (m : TreeMap) → Agree m.entries.entries m.in_memory.keys
+agreed m = record { keyed = m.keyed; ordered = m.ordered; listed = m.listed }
 
 -- by the entries that they come to
 agree : (entries : List (EntryKey × Entry)) (keys : List EntryKey) (es : List Entry) → entries ≡ with_keys es → is_in_order es ≡ true → keys ≡ memory_keys es → Agree entries keys

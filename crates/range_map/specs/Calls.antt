@@ -1,9 +1,7 @@
 -- Calls of a map, one after another.
 use Rattle.std.specs.Prelude.{Option, Some, None, List, [], ◌∷◌, length, drop, reverse, find, slice_get, IsTrue, IsNone, IsSomeAnd}
 use Rattle.std.specs.Option.{option_map}
-use Rattle.gw_model.specs.declared.Stable.{Stable}
 use Rattle.range_map.specs.declared.entry.Entry.{Entry}
-use Rattle.range_map.specs.declared.entry.Place.{Place}
 use Rattle.range_map.specs.declared.calls.MapCall.{MapCall}
 use Rattle.range_map.specs.declared.calls.MapCall.TheVariants.{Insert, First, PopFirst, SameRange, GiveTicket, LastInMemory, SetPlace, MaxGoal, Len}
 use Rattle.range_map.specs.declared.calls.MapAnswer.{MapAnswer}

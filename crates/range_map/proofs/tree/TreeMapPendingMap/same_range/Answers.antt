@@ -1,13 +1,13 @@
 use Rattle.std.proofs.Common.{◌∷◌, ◌∙◌, sym}
 use Rattle.std.specs.Map.{values_of}
 use Rattle.std.specs.BTreeMap.{values}
-use Rattle.range_map.proofs.KeyedEntries.{Agree, IsSought, seek, seek_past}
+use Rattle.range_map.proofs.KeyedEntries.{agreed, IsSought, seek, seek_past}
 use Rattle.range_map.proofs.tree.TreeMapPendingMap.same_range.Goals as goal
 
 pub loop-entry-init : goal.loop-entry-init
 loop-entry-init c =
     let m = c.args.self.now in
-    let a : Agree m.entries.entries m.in_memory.keys = record { keyed = m.keyed; ordered = m.ordered; listed = m.listed } in
+    let a = agreed m in
     seek c.args.offset c.args.count m.entries.entries c.into_iter-entry-iterator.result m.in_memory.keys a (c.into_iter-entry-iterator.ensures.into_iter_gives ∙ c.range-entry-items.ensures.between tt)
 
 pub returns-then-entry-offset : goal.returns-then-entry-offset
