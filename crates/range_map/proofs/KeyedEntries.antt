@@ -219,21 +219,21 @@ put_value offset number f [] e k h found = absurd (cc)
 put_value offset number f (x ∷ xs) e k h found =
     let q = and_true (list_all (is_before x) xs) (is_in_order xs) h in
     let go : (b : Bool) → is_at offset number x ≡ b
-        → set_value (is_found (key_cmp (record { offset = offset; number = number }))) (with_keys (x ∷ xs)) (f e) ≡ with_keys (map (changed offset number f) (x ∷ xs)) = elim [
+    → set_value (is_found (key_cmp (record { offset = offset; number = number }))) (with_keys (x ∷ xs)) (f e) ≡ with_keys (map (changed offset number f) (x ∷ xs)) = elim [
       | true ↦ λ is.
           let here : Some x ≡ Some e = rw is at found in
           let same : e ≡ x = cc in
           let rest = none_changed offset number f x xs q.0 is in
           let head : changed offset number f x ≡ f x = rw is refl in
           let left : set_value (is_found (key_cmp (record { offset = offset; number = number }))) (with_keys (x ∷ xs)) (f e) ≡ (entry_key x, f x) ∷ with_keys xs =
-              rw (found_is offset number x, is) (ap (λ (z : Entry). (entry_key x, f z) ∷ with_keys xs) same) in
+          rw (found_is offset number x, is) (ap (λ (z : Entry). (entry_key x, f z) ∷ with_keys xs) same) in
           left ∙ (ap (λ (z : EntryKey). (z, f x) ∷ with_keys xs) (sym (key_kept f k x))
           ∙ (ap (λ (l : List Entry). with_keys (f x ∷ l)) (sym rest) ∙ ap (λ (z : Entry). with_keys (z ∷ map (changed offset number f) xs)) (sym head)))
       | false ↦ λ is.
           let later : entry_at offset number xs ≡ Some e = rw is at found in
           let head : changed offset number f x ≡ x = rw is refl in
           let left : set_value (is_found (key_cmp (record { offset = offset; number = number }))) (with_keys (x ∷ xs)) (f e)
-              ≡ (entry_key x, x) ∷ set_value (is_found (key_cmp (record { offset = offset; number = number }))) (with_keys xs) (f e) = rw (found_is offset number x, is) refl in
+          ≡ (entry_key x, x) ∷ set_value (is_found (key_cmp (record { offset = offset; number = number }))) (with_keys xs) (f e) = rw (found_is offset number x, is) refl in
           left ∙ (ap (λ (l : List (EntryKey × Entry)). (entry_key x, x) ∷ l) (put_value offset number f xs e k q.1 later)
           ∙ ap (λ (z : Entry). with_keys (z ∷ map (changed offset number f) xs)) (sym head))
     ] in
@@ -275,7 +275,7 @@ spilled_keys offset number f [] h out = refl
 spilled_keys offset number f (x ∷ xs) h out =
     let q = and_true (list_all (is_before x) xs) (is_in_order xs) h in
     let go : (b : Bool) → is_at offset number x ≡ b
-        → remove_key (is_found (key_cmp (record { offset = offset; number = number }))) (memory_keys (x ∷ xs)) ≡ memory_keys (map (changed offset number f) (x ∷ xs)) = elim [
+    → remove_key (is_found (key_cmp (record { offset = offset; number = number }))) (memory_keys (x ∷ xs)) ≡ memory_keys (map (changed offset number f) (x ∷ xs)) = elim [
       | true ↦ λ is.
           let gone = ap (λ (k : EntryKey). remove_key (is_found (key_cmp k)) (memory_keys (x ∷ xs))) (key_is offset number x is) ∙ first_removed x xs h in
           let head : is_in_memory (changed offset number f x) ≡ false = rw is (out x) in
@@ -284,7 +284,7 @@ spilled_keys offset number f (x ∷ xs) h out =
           let head : changed offset number f x ≡ x = rw is refl in
           let rest = spilled_keys offset number f xs q.1 out in
           let inner : (m : Bool) → is_in_memory x ≡ m
-              → remove_key (is_found (key_cmp (record { offset = offset; number = number }))) (memory_keys (x ∷ xs)) ≡ memory_keys (x ∷ map (changed offset number f) xs) = elim [
+          → remove_key (is_found (key_cmp (record { offset = offset; number = number }))) (memory_keys (x ∷ xs)) ≡ memory_keys (x ∷ map (changed offset number f) xs) = elim [
             | true ↦ λ at. rw (at, found_is offset number x, is) (ap (λ (l : List EntryKey). entry_key x ∷ l) rest)
             | false ↦ λ at. rw at rest
           ] in
@@ -320,7 +320,7 @@ pub put : (e : Entry) (old new : List (EntryKey × Entry)) (keys more : List Ent
     → new ≡ insert_entry key_cmp old (entry_key e) e → more ≡ with_memory_key e keys → IsPut e new more (values_of old)
 put e old new keys more a fresh is listed =
     let all : new ≡ with_keys (with_entry e (values_of old)) =
-        is ∙ (ap (λ (l : List (EntryKey × Entry)). insert_entry key_cmp l (entry_key e) e) a.keyed ∙ put_entry e (values_of old) fresh) in
+    is ∙ (ap (λ (l : List (EntryKey × Entry)). insert_entry key_cmp l (entry_key e) e) a.keyed ∙ put_entry e (values_of old) fresh) in
     let go : (b : Bool) → is_in_memory e ≡ b → with_memory_key e (memory_keys (values_of old)) ≡ memory_keys (with_entry e (values_of old)) = elim [
       | true ↦ λ here. rw here (put_key e (values_of old) a.ordered fresh here)
       | false ↦ λ here. rw here (put_spilled e (values_of old) here)
@@ -353,10 +353,10 @@ pub set : (offset number : ℕ) (f : Entry → Entry) (e : Entry) (old new : Lis
     → (entry_at offset number (values_of old) ≡ Some e → left ≡ memory_keys (map (changed offset number f) (values_of old))) → IsSet offset number f e new left (values_of old)
 set offset number f e old new keys left k a found is listed =
     let here : entry_at offset number (values_of old) ≡ Some e =
-        sym (found_at offset number (values_of old)) ∙ (ap (lookup (is_found (key_cmp (record { offset = offset; number = number })))) (sym a.keyed) ∙ found) in
+    sym (found_at offset number (values_of old)) ∙ (ap (lookup (is_found (key_cmp (record { offset = offset; number = number })))) (sym a.keyed) ∙ found) in
     let all : new ≡ with_keys (map (changed offset number f) (values_of old)) =
-        is ∙ (ap (λ (l : List (EntryKey × Entry)). set_value (is_found (key_cmp (record { offset = offset; number = number }))) l (f e)) a.keyed
-        ∙ put_value offset number f (values_of old) e k a.ordered here) in
+    is ∙ (ap (λ (l : List (EntryKey × Entry)). set_value (is_found (key_cmp (record { offset = offset; number = number }))) l (f e)) a.keyed
+    ∙ put_value offset number f (values_of old) e k a.ordered here) in
     let sorted = in_order-map (changed offset number f) (changed-keeps offset number f k) (values_of old) ∙ a.ordered in
     record {
       here = here;
@@ -557,7 +557,7 @@ pub seek : (offset count : ℕ) (entries rest : List (EntryKey × Entry)) (keys 
 seek offset count entries rest keys a is =
     let t : Entry → Bool = λ e. nat_le offset e.offset in
     let all = ap (entries_between key_cmp (Included (record { offset = offset; number = 0 })) Unbounded) a.keyed
-        ∙ between (range_contains key_cmp (Included (record { offset = offset; number = 0 })) Unbounded) t (values_of entries) (from_key offset) in
+    ∙ between (range_contains key_cmp (Included (record { offset = offset; number = 0 })) Unbounded) t (values_of entries) (from_key offset) in
     let same : values_of rest ≡ filter t (values_of entries) = ap values_of (is ∙ all) ∙ values-with_keys (filter t (values_of entries)) in
     record {
       found = found-from offset count (values_of entries) ∙ ap (find (has_range offset count)) (sym same);
@@ -622,7 +622,7 @@ pub aim : (limit : ℕ) (entries rest : List (EntryKey × Entry)) (keys : List E
 aim limit entries rest keys a is =
     let t : Entry → Bool = λ e. nat_lt e.offset limit in
     let all = ap (entries_between key_cmp Unbounded (Excluded (record { offset = limit; number = 0 }))) a.keyed
-        ∙ between (range_contains key_cmp Unbounded (Excluded (record { offset = limit; number = 0 }))) t (values_of entries) (below_key limit) in
+    ∙ between (range_contains key_cmp Unbounded (Excluded (record { offset = limit; number = 0 }))) t (values_of entries) (below_key limit) in
     let same : values_of rest ≡ filter t (values_of entries) = ap values_of (is ∙ all) ∙ values-with_keys (filter t (values_of entries)) in
     record {
       so_far = goal-below limit (values_of entries) ∙ (ap (commit_goal limit) (sym same) ∙ max_zero (commit_goal limit (values_of rest)));

@@ -10,7 +10,7 @@ invariant_of-self c =
     let ticketed = λ (e : Entry). record e { stable = c.args.stable; ticket = Some c.args.ticket } in
     let e = c.in-Some.entry.now in
     let after = (set c.args.offset c.args.number ticketed e m.entries.entries _ m.in_memory.keys m.in_memory.keys (λ x. (refl, refl)) a (sym c.in-Some.ensures.value)
-        (c.get_mut.follows.holds (ticketed e)).0 (λ here. m.listed ∙ sym (kept_keys c.args.offset c.args.number ticketed _ e (λ x. (refl, refl)) m.ordered here refl))).agree in
+    (c.get_mut.follows.holds (ticketed e)).0 (λ here. m.listed ∙ sym (kept_keys c.args.offset c.args.number ticketed _ e (λ x. (refl, refl)) m.ordered here refl))).agree in
     record { keyed = after.keyed; ordered = after.ordered; listed = after.listed }
 
 pub unreachable-requires : goal.unreachable-requires

@@ -10,7 +10,7 @@ invariant_of-self c =
     let placed = λ (e : Entry). record e { place = c.args.place } in
     let e = c.in-Some.entry.now in
     let after = (set c.args.offset c.args.number placed e m.entries.entries _ m.in_memory.keys c.move_key.new.keys.keys (λ x. (refl, refl)) a (sym c.in-Some.ensures.value)
-        (c.get_mut.follows.holds (placed e)).0 (moved c.args.offset c.args.number c.args.place e _ m.in_memory.keys c.move_key.new.keys.keys m.ordered c.requires m.listed c.move_key.ensures)).agree in
+    (c.get_mut.follows.holds (placed e)).0 (moved c.args.offset c.args.number c.args.place e _ m.in_memory.keys c.move_key.new.keys.keys m.ordered c.requires m.listed c.move_key.ensures)).agree in
     rw c.replace.ensures.after (record { keyed = after.keyed; ordered = after.ordered; listed = after.listed })
 
 pub unreachable-requires : goal.unreachable-requires
@@ -26,7 +26,7 @@ returns-clause-old c =
     let placed = λ (e : Entry). record e { place = c.args.place } in
     let e = c.in-Some.entry.now in
     let here = (set c.args.offset c.args.number placed e m.entries.entries _ m.in_memory.keys c.move_key.new.keys.keys (λ x. (refl, refl)) a (sym c.in-Some.ensures.value)
-        (c.get_mut.follows.holds (placed e)).0 (moved c.args.offset c.args.number c.args.place e _ m.in_memory.keys c.move_key.new.keys.keys m.ordered c.requires m.listed c.move_key.ensures)).here in
+    (c.get_mut.follows.holds (placed e)).0 (moved c.args.offset c.args.number c.args.place e _ m.in_memory.keys c.move_key.new.keys.keys m.ordered c.requires m.listed c.move_key.ensures)).here in
     rw here c.replace.ensures.value
 
 pub returns-clause-new : goal.returns-clause-new
@@ -36,5 +36,5 @@ returns-clause-new c =
     let placed = λ (e : Entry). record e { place = c.args.place } in
     let e = c.in-Some.entry.now in
     let after = (set c.args.offset c.args.number placed e m.entries.entries _ m.in_memory.keys c.move_key.new.keys.keys (λ x. (refl, refl)) a (sym c.in-Some.ensures.value)
-        (c.get_mut.follows.holds (placed e)).0 (moved c.args.offset c.args.number c.args.place e _ m.in_memory.keys c.move_key.new.keys.keys m.ordered c.requires m.listed c.move_key.ensures)).values in
+    (c.get_mut.follows.holds (placed e)).0 (moved c.args.offset c.args.number c.args.place e _ m.in_memory.keys c.move_key.new.keys.keys m.ordered c.requires m.listed c.move_key.ensures)).values in
     rw c.replace.ensures.after after
