@@ -28,10 +28,22 @@ dropped_both : (told : Type 0) (x y z : PartState) (b : Bool) → y.live ≡ b �
 dropped_both told x y z true on r s called off = let h = s.dropped (on, ap is_some r.mark ∙ called.1) off in let m = r.later in omega (arith, h, m)
 dropped_both told x y z false on r s called off = let h = r.dropped called on in let m = s.later in omega (arith, h, m)
 
+-- a list is a front of itself, and a front of a front is one
+pub front_self : (xs ys : List ℕ) → ys ≡ xs → xs ≡ take (length xs) ys
+front_self xs ys same = sym same ∙ sym (take_all (length xs) ys (let e = ap length same in omega (arith, e)))
+
+pub front_both : (xs ys zs : List ℕ) → xs ≡ take (length xs) ys → ys ≡ take (length ys) zs → xs ≡ take (length xs) zs
+front_both xs ys zs one two =
+    let e : length xs ≡ length (take (length xs) ys) = ap length one in
+    let l = length-take (length xs) ys in
+    one ∙ ap (λ us. take (length xs) us) two ∙ take-take (length xs) (length ys) zs (omega (arith, e, l))
+
 pub serves_both : (told : Type 0) (x y z : PartState) → Serves told x y → Serves told y z → Serves told x z
 serves_both told x y z r s = record {
   live = λ l. r.live (s.live l);
   idle = λ off t. s.idle (not_live x.live y.live r.live off) t ∙ r.idle off t;
+  front = λ t. front_both x.content y.content z.content (r.front t) (s.front t);
+  durable = λ t. let a = r.durable t in let b = s.durable t in omega (arith, a, b);
   mark = s.mark ∙ r.mark;
   later = let a = r.later in let b = s.later in omega (arith, a, b);
   dropped = λ called off. dropped_both told x y z y.live refl r s called off;
@@ -41,6 +53,8 @@ pub serves_same : (told : Type 0) (x : PartState) → Serves told x x
 serves_same told x = record {
   live = λ l. l;
   idle = λ off t. refl;
+  front = λ t. front_self x.content x.content refl;
+  durable = λ t. omega arith;
   mark = refl;
   later = omega arith;
   dropped = λ called off. absurd (let on = called.0 in cc);
@@ -50,6 +64,8 @@ pub measures_serves : (told : Type 0) (x y : PartState) → Measures x y → Ser
 measures_serves told x y r = record {
   live = λ l. sym r.live ∙ l;
   idle = λ off t. r.content;
+  front = λ t. front_self x.content y.content r.content;
+  durable = λ t. let e = r.durable in omega (arith, e);
   mark = r.mark;
   later = let e = ap (λ c. c.failed) r.tally in omega (arith, e);
   dropped = λ called off. absurd (let on = called.0 in let same = r.live in cc);
@@ -59,6 +75,8 @@ pub syncs_serves : (told : Type 0) (x y : PartState) → Syncs told x y → Serv
 syncs_serves told x y r = record {
   live = λ l. (r.live l).0;
   idle = λ off t. r.content t;
+  front = λ t. front_self x.content y.content (r.content t);
+  durable = λ t. r.durable t;
   mark = r.mark;
   later = r.failing;
   dropped = λ called off. failed_rose _ _ (r.called called ∙ ap (λ b. one_call (not b) x.tally) off);

@@ -31,11 +31,13 @@ FailsOn old new = old.failed ≤ new.failed
 abbrev pub HasFailed : Tally → Tally → Type 0
 HasFailed old new = Rose old.failed new.failed
 
--- a file that calls were made on: it is the same file, and is dropped only where one failed; one that
--- isn't written any more stays as it is
+-- a file that calls were made on: it is the same file with what it had in front, and is dropped only
+-- where a call failed; one that isn't written any more stays as it is
 pub record Serves (told : Type 0) (old new : PartState) : Type 0 where
   pub live : new.live ≡ true → old.live ≡ true
   pub idle : old.live ≡ false → told → new.content ≡ old.content
+  pub front : told → old.content ≡ take (length old.content) new.content
+  pub durable : told → old.durable ≤ new.durable
   pub mark : new.mark ≡ old.mark
   pub later : FailsOn old.tally new.tally
   pub dropped : IsCalled old → new.live ≡ false → HasFailed old.tally new.tally
@@ -46,6 +48,7 @@ pub record Measures (old new : PartState) : Type 0 where
   pub tally : new.tally ≡ old.tally
   pub live : new.live ≡ old.live
   pub content : new.content ≡ old.content
+  pub durable : new.durable ≡ old.durable
   pub measured : new.kept ≡ length new.content
 
 -- what others lack is read of it

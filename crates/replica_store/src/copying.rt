@@ -1,5 +1,5 @@
 // The copying of what one file of an object lacks from another one.
-ghost use Rattle.std.specs.Prelude.{slice_set, ◌≡◌, ◌≤◌, ◌<◌, ◌-◌, ◌++◌, ℕ, List, length, min, true, false};
+ghost use Rattle.std.specs.Prelude.{slice_set, ◌≡◌, ◌≤◌, ◌<◌, ◌-◌, ◌++◌, ℕ, List, length, min, take, true, false};
 ghost use Rattle.std.specs.Prelude.{IfOk, IfNone, IfSome, IsErrOf, OnOk};
 ghost use Rattle.std.specs.List.{AllByRecursion, AllZip};
 ghost use Rattle.append_store.specs.Calls.{part_at};
@@ -59,6 +59,7 @@ fn copy_piece<F: AppendFile>(
 pub(crate) fn catch_up<F: AppendFile>(source: &mut F, target: &mut F) -> Result<(), CopyFault>
     ensures whole { OnOk result (F.tells → length (F.content source.old) ≤ length (F.content target.new)) }
     ensures content { F.tells → Extends (F.content source.old) (F.content target.old) (F.content target.new) }
+    ensures front { F.tells → F.content target.old ≡ take (length (F.content target.old)) (F.content target.new) }
     ensures durable { F.tells → F.durable target.old ≤ F.durable target.new }
     ensures same { F.mark target.new ≡ F.mark target.old }
     ensures later { FailsOn (F.tally target.old) (F.tally target.new) }
@@ -113,6 +114,7 @@ fn longest<F: AppendFile>(parts: &mut Vec<Part<F>>) -> Option<Lead>
 
 // Adds to one file what the chief has beyond it, and drops whichever fails. Where one of them isn't
 // written any more, nothing is done.
+#[tactic(auto, using(crate::proofs::Serving::front_self))]
 fn catch_up_one<F: AppendFile>(part: &mut Part<F>, chief: &mut Part<F>)
     ensures part { CatchesUp F.tells chief.old.content part.old part.new }
     ensures whole { chief.new.live ≡ true → Completes F.tells chief.old.content part.old part.new }
