@@ -5,6 +5,7 @@ pub mod Changes
 pub mod Crashing
 pub mod Creating
 pub mod Deleting
+pub mod Enduring
 pub mod Entries
 pub mod Extending
 pub mod Files

@@ -9,8 +9,10 @@ use Rattle.replica_store.specs.Levels.{AreFronts, AreLevel, IsFront, Serves, Sta
 use Rattle.replica_store.specs.Parts.{PartState, part_of}
 use Rattle.replica_store.specs.Reopening.{AwaitsLevel, HasFront, IsGivenUp, IsLed, IsLeft, IsOutOfNone}
 use Rattle.replica_store.specs.Seats.{SeatView, KnownState, AllTakePart, TakesPart, column, is_given_up, losses_of, mark_in, none_live, state_of, told_by}
+use Rattle.replica_store.specs.Starting.{AllLevelled, IsLevelled, Upholds}
 use Rattle.replica_store.specs.Steps.{GivenAs, Gives, TakenAs, Takes, Together, Touches}
 use Rattle.replica_store.proofs.Changes.{sum_same}
+use Rattle.replica_store.proofs.Enduring.{upholds_same}
 use Rattle.replica_store.proofs.Pairs.{at_pair, at_part, each_part, same_length}
 use Rattle.replica_store.proofs.Told.{FitsIn, IsKept, told_kept}
 
@@ -98,6 +100,18 @@ keeps_losses told object x y z p q r c t = by (settled told object x y z p q r c
     by : Took told object x z p q ⊎ Left told object x z p → z.losses object ≡ x.losses object
     by (inl took) = took.losses t
     by (inr left) = left.losses t
+
+-- the member has what it had
+levelled : (told : Type 0) (object : ObjectId) (x y z : SeatView) (p q r : PartState) → Chain told object x y z p q r → IsLevelled told object x z
+levelled told object x y z p q r c = by (settled told object x y z p q r c)
+  where
+    by : Took told object x z p q ⊎ Left told object x z p → IsLevelled told object x z
+    by (inl took) = record {
+      held = λ t. subst (λ s. Upholds s (z.at object)) (sym (took.before t))
+          (record { content = q.content; durable = q.durable; kept = took.after t; front = c.serves.front t; more = c.serves.durable t });
+      losses = took.losses;
+    }
+    by (inr left) = record { held = λ t. upholds_same _ _ (left.same t); losses = left.losses }
 
 stays_left : (told : Type 0) (object : ObjectId) (x y z : SeatView) (p q r : PartState) → Chain told object x y z p q r → told → p.live ≡ false → z.at object ≡ x.at object
 stays_left told object x y z p q r c t off = by (settled told object x y z p q r c)
@@ -225,6 +239,9 @@ module _ {X : Type 0} (v : X → SeatView) where
         by : (us : List PartState) → AllZip (λ s p. TakesPart (v s) p) zs us → AllTakePart v zs us
         by [] is = tt
         by (u ∷ us) is = is
+
+    pub all_levelled : AllLevelled told v object xs zs
+    all_levelled = each_two (IsLevelled told object) xs zs many_members (λ k lt. levelled told object _ _ _ _ _ _ (chain k lt))
 
     pub same_losses : told → losses_of v zs object ≡ losses_of v xs object
     same_losses t = sum_same (λ s. (v s).losses object) xs zs (each_two (λ s u. u.losses object ≡ s.losses object) xs zs many_members (λ k lt.

@@ -9,9 +9,11 @@ use Rattle.append_store.specs.Calls.{object_cmp}
 use Rattle.append_store.specs.State.{ObjectState, Missing, Kept, Lent, IsAway, IsThere, IsCrashImage}
 use Rattle.replica_store.specs.Kept.{AllTouch, NoneCalled}
 use Rattle.replica_store.specs.Objects.{AreSound, told_at}
-use Rattle.replica_store.specs.Reopening.{Awaits, CanLevel, HasFront, IsAfter, IsOutOfNone, Untouched}
+use Rattle.replica_store.specs.Reopening.{AllUntouched, Awaits, CanLevel, HasFront, IsAfter, IsOutOfNone}
 use Rattle.replica_store.specs.Seats.{SeatView, KnownState, IsSoundAt, column, counts_of, known_at, losses_of, state_of, told_of}
+use Rattle.replica_store.specs.Starting.{AllEndure, AllLevelled}
 use Rattle.replica_store.proofs.Changes.{leaves_others, same_name}
+use Rattle.replica_store.proofs.Enduring.{all_at, all_both, all_same}
 use Rattle.replica_store.proofs.Pairs.{weaker_pairs}
 use Rattle.replica_store.proofs.Told.{column_same}
 
@@ -53,14 +55,11 @@ not_called true b more off = absurd (let e = more refl in cc)
 not_called false b more off = refl
 
 module _ {X : Type 0} (v : X → SeatView) (told : Type 0) where
-  abbrev pub AllUntouched : ObjectId → List X → List X → Type 0
-  AllUntouched q xs ys = AllZip (λ s t. Untouched told q (v s) (v t)) xs ys
-
-  untouched_same : (q : ObjectId) (xs : List X) → AllUntouched q xs xs
+  untouched_same : (q : ObjectId) (xs : List X) → AllUntouched told v q xs xs
   untouched_same q [] = tt
   untouched_same q (x ∷ xs) = (record { live = λ l. l; same = λ t. refl }, untouched_same q xs)
 
-  untouched_both : (q o : ObjectId) → q ≢ o → (xs ys zs : List X) → AllUntouched q xs ys → AllTouch told v o ys zs → AllUntouched q xs zs
+  untouched_both : (q o : ObjectId) → q ≢ o → (xs ys zs : List X) → AllUntouched told v q xs ys → AllTouch told v o ys zs → AllUntouched told v q xs zs
   untouched_both q o other [] [] [] one two = tt
   untouched_both q o other [] [] (z ∷ zs) one two = absurd two
   untouched_both q o other [] (y ∷ ys) zs one two = absurd one
@@ -74,40 +73,40 @@ module _ {X : Type 0} (v : X → SeatView) (told : Type 0) where
     untouched_both q o other xs ys zs one.1 two.1,
   )
 
-  untouched_column : (q : ObjectId) (xs ys : List X) → AllUntouched q xs ys → told → column v ys q ≡ column v xs q
+  untouched_column : (q : ObjectId) (xs ys : List X) → AllUntouched told v q xs ys → told → column v ys q ≡ column v xs q
   untouched_column q xs ys is t = column_same v q xs ys (weaker_pairs _ _ (λ x y r. r.same t) xs ys is)
 
-  untouched_many : (q : ObjectId) (xs ys : List X) → AllUntouched q xs ys → length ys ≡ length xs
+  untouched_many : (q : ObjectId) (xs ys : List X) → AllUntouched told v q xs ys → length ys ≡ length xs
   untouched_many q [] [] is = refl
   untouched_many q [] (y ∷ ys) is = absurd is
   untouched_many q (x ∷ xs) [] is = absurd is
   untouched_many q (x ∷ xs) (y ∷ ys) is = let e = untouched_many q xs ys is.1 in omega (arith, e)
 
-  none_still : (q : ObjectId) (xs ys : List X) → AllUntouched q xs ys → NoneCalled v xs → NoneCalled v ys
+  none_still : (q : ObjectId) (xs ys : List X) → AllUntouched told v q xs ys → NoneCalled v xs → NoneCalled v ys
   none_still q [] [] is none = tt
   none_still q [] (y ∷ ys) is none = absurd is
   none_still q (x ∷ xs) [] is none = absurd is
   none_still q (x ∷ xs) (y ∷ ys) is none = (not_called (v y).live (v x).live is.0.live none.0, none_still q xs ys is.1 none.1)
 
-  inside_still : (q : ObjectId) (xs ys : List X) → AllUntouched q xs ys → IsOutOfNone told v q xs → IsOutOfNone told v q ys
+  inside_still : (q : ObjectId) (xs ys : List X) → AllUntouched told v q xs ys → IsOutOfNone told v q xs → IsOutOfNone told v q ys
   inside_still q [] [] is all = tt
   inside_still q [] (y ∷ ys) is all = absurd is
   inside_still q (x ∷ xs) [] is all = absurd is
   inside_still q (x ∷ xs) (y ∷ ys) is all = (λ t away. all.0 t (subst IsAway (is.0.same t) away), inside_still q xs ys is.1 all.1)
 
-  fronts_still : (q : ObjectId) (bytes : List ℕ) (least : ℕ) (xs ys : List X) → AllUntouched q xs ys → AllByRecursion (λ s. (v s).live ≡ true → told → HasFront bytes least ((v s).at q)) xs → AllByRecursion (λ s. (v s).live ≡ true → told → HasFront bytes least ((v s).at q)) ys
+  fronts_still : (q : ObjectId) (bytes : List ℕ) (least : ℕ) (xs ys : List X) → AllUntouched told v q xs ys → AllByRecursion (λ s. (v s).live ≡ true → told → HasFront bytes least ((v s).at q)) xs → AllByRecursion (λ s. (v s).live ≡ true → told → HasFront bytes least ((v s).at q)) ys
   fronts_still q bytes least [] [] is all = tt
   fronts_still q bytes least [] (y ∷ ys) is all = absurd is
   fronts_still q bytes least (x ∷ xs) [] is all = absurd is
   fronts_still q bytes least (x ∷ xs) (y ∷ ys) is all = (λ live t. subst (HasFront bytes least) (sym (is.0.same t)) (all.0 (is.0.live live) t), fronts_still q bytes least xs ys is.1 all.1)
 
-  there_still : (q : ObjectId) (xs ys : List X) → AllUntouched q xs ys → AllByRecursion (λ s. told → (v s).live ≡ true → IsThere ((v s).at q)) xs → AllByRecursion (λ s. told → (v s).live ≡ true → IsThere ((v s).at q)) ys
+  there_still : (q : ObjectId) (xs ys : List X) → AllUntouched told v q xs ys → AllByRecursion (λ s. told → (v s).live ≡ true → IsThere ((v s).at q)) xs → AllByRecursion (λ s. told → (v s).live ≡ true → IsThere ((v s).at q)) ys
   there_still q [] [] is all = tt
   there_still q [] (y ∷ ys) is all = absurd is
   there_still q (x ∷ xs) [] is all = absurd is
   there_still q (x ∷ xs) (y ∷ ys) is all = (λ t live. subst IsThere (sym (is.0.same t)) (all.0 t (is.0.live live)), there_still q xs ys is.1 all.1)
 
-  awaits_still : (q : ObjectId) (xs ys : List X) (o : Option KnownState) (before : ObjectState) → AllUntouched q xs ys → Awaits told v q xs o before → Awaits told v q ys o before
+  awaits_still : (q : ObjectId) (xs ys : List X) (o : Option KnownState) (before : ObjectState) → AllUntouched told v q xs ys → Awaits told v q xs o before → Awaits told v q ys o before
   awaits_still q xs ys None before is awaits = awaits
   awaits_still q xs ys (Some k) Missing is awaits = record {
     none = none_still q xs ys is awaits.none;
@@ -124,7 +123,7 @@ module _ {X : Type 0} (v : X → SeatView) (told : Type 0) where
   }
   awaits_still q xs ys (Some k) (Lent m) is awaits = absurd awaits
 
-  can_still : (q : ObjectId) (xs ys : List X) (o : Option KnownState) → AllUntouched q xs ys → CanLevel told v q xs o → CanLevel told v q ys o
+  can_still : (q : ObjectId) (xs ys : List X) (o : Option KnownState) → AllUntouched told v q xs ys → CanLevel told v q xs o → CanLevel told v q ys o
   can_still q xs ys None is can = tt
   can_still q xs ys (Some k) is can = there_still q xs ys is can
 
@@ -133,10 +132,11 @@ module _ {X : Type 0} (v : X → SeatView) (told : Type 0) where
     pub sound : AreSound told v ys new
     pub keys : keys_of new ≡ keys_of old
     pub known : (q : ObjectId) → IsAfter last q → known_at new q ≡ known_at old q
-    pub waits : (q : ObjectId) → IsAfter last q → AllUntouched q xs ys
+    pub waits : (q : ObjectId) → IsAfter last q → AllUntouched told v q xs ys
     pub done : (q : ObjectId) → (IsAfter last q → ⊥) → (before : ObjectState) → Awaits told v q xs (known_at old q) before → told → IsCrashImage before (told_at v ys new q)
     pub losses : told → (q : ObjectId) → losses_of v ys q ≡ losses_of v xs q
     pub later : counts_of v xs ≤ counts_of v ys
+    pub each : AllEndure told v xs ys
 
   pub walk_start : (xs : List X) (old : List (ObjectId × KnownState)) → AreSound told v xs old → Walk None xs xs old old
   walk_start xs old sound = record {
@@ -147,6 +147,7 @@ module _ {X : Type 0} (v : X → SeatView) (told : Type 0) where
     done = λ q na. absurd (na tt);
     losses = λ t q. refl;
     later = omega arith;
+    each = all_same told v xs;
   }
 
   pub walk_can : (last : Option ObjectId) (xs ys : List X) (old new : List (ObjectId × KnownState)) (o : ObjectId) → Walk last xs ys old new → IsAfter last o → CanLevel told v o xs (known_at old o) → CanLevel told v o ys (known_at new o)
@@ -182,8 +183,8 @@ module _ {X : Type 0} (v : X → SeatView) (told : Type 0) where
     differs : (q : ObjectId) → object_cmp o q ≡ Less → q ≢ o
     differs q less same = not_self o (subst (λ r. object_cmp o r ≡ Less) same less)
 
-    pub walk_on : keys_of newer ≡ keys_of new → ((before : ObjectState) → Awaits told v o ys (known_at new o) before → told → IsCrashImage before (told_at v zs newer o)) → (told → losses_of v zs o ≡ losses_of v ys o) → Walk (Some o) xs zs old newer
-    walk_on keys image losses =
+    pub walk_on : keys_of newer ≡ keys_of new → ((before : ObjectState) → Awaits told v o ys (known_at new o) before → told → IsCrashImage before (told_at v zs newer o)) → (told → losses_of v zs o ≡ losses_of v ys o) → AllLevelled told v o ys zs → Walk (Some o) xs zs old newer
+    walk_on keys image losses levelled =
         let all = leaves_others v told o ys zs new newer w.sound others here touched in
         record {
           sound = all.sound;
@@ -193,6 +194,7 @@ module _ {X : Type 0} (v : X → SeatView) (told : Type 0) where
           done = λ q late. all_done image q late (same_name q o);
           losses = λ t q. losses_done losses t q (same_name q o);
           later = let a = w.later in let b = all.later in omega (arith, a, b);
+          each = all_both told v xs ys zs w.each (all_at told v o ys zs touched levelled);
         }
 
   pub walk_end : (last : Option ObjectId) (xs ys : List X) (old new : List (ObjectId × KnownState)) → Walk last xs ys old new → ((q : ObjectId) → IsAfter last q → known_at new q ≡ None) → (q : ObjectId) (before : ObjectState) → Awaits told v q xs (known_at old q) before → told → IsCrashImage before (told_at v ys new q)

@@ -6,4 +6,5 @@ pub mod Objects
 pub mod Parts
 pub mod Reopening
 pub mod Seats
+pub mod Starting
 pub mod Steps

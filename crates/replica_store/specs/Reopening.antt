@@ -1,7 +1,7 @@
 -- What a crash of the members leaves, and how they are made equal again.
 use Rattle.std.specs.Prelude.{◌≡◌, ℕ, ◌+◌, max, ◌<◌, ◌≤◌, ◌^◌, ◌-◌, List, length, true, false, Option, Some, None}
 use Rattle.std.specs.declared.cmp.Ordering.TheVariants.{Less}
-use Rattle.std.specs.List.{AllByRecursion}
+use Rattle.std.specs.List.{AllByRecursion, AllZip}
 use Rattle.gw_model.specs.declared.object.ObjectId.{ObjectId}
 use Rattle.append_store.specs.State.{ObjectState, Missing, Kept, Lent, IsAway, IsThere, IsCrashImage, MayCut}
 use Rattle.append_store.specs.Calls.{object_cmp}
@@ -76,6 +76,9 @@ CanLevel told v q ss (Some k) = AllByRecursion (λ s. told → (v s).live ≡ tr
 pub record Untouched (told : Type 0) (q : ObjectId) (old new : SeatView) : Type 0 where
   pub live : new.live ≡ true → old.live ≡ true
   pub same : told → new.at q ≡ old.at q
+
+abbrev pub AllUntouched : {X : Type 0} → Type 0 → (X → SeatView) → ObjectId → List X → List X → Type 0
+AllUntouched told v q olds news = AllZip (λ s t. Untouched told q (v s) (v t)) olds news
 
 -- behind the last object
 abbrev pub IsAfter : Option ObjectId → ObjectId → Type 0

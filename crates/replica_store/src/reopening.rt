@@ -10,6 +10,7 @@ ghost use Rattle.replica_store.specs.Kept.{AllTouch, told_now};
 ghost use Rattle.replica_store.specs.Objects.{AreSound, told_at};
 ghost use Rattle.replica_store.specs.Levels.{AreFronts, Serves, StayFronts};
 ghost use Rattle.replica_store.specs.Reopening.{Awaits, AwaitsLevel, CanLevel, Crashes, IsAfter, IsGivenUp, IsLed, IsLeft, needed_of};
+ghost use Rattle.replica_store.specs.Starting.{AllEndure, AllLevelled};
 ghost use Rattle.replica_store.specs.Seats.{AllTakePart, IsSoundAt, column, counts_of, losses_of, seat_view, told_of};
 
 use crate::copying::level;
@@ -79,6 +80,7 @@ pub(crate) fn level_kept<C: Cluster>(
         → C.File.tells → told_now (seat_view C.at C.losses C.count) object seats.new.items kept.new ≡ Missing }
     ensures losses { C.File.tells → losses_of (seat_view C.at C.losses C.count) seats.new.items object
         ≡ losses_of (seat_view C.at C.losses C.count) seats.old.items object }
+    ensures held { AllLevelled C.File.tells (seat_view C.at C.losses C.count) object seats.old.items seats.new.items }
 {
     take_each(seats, object, &mut kept.parts);
     let lead = settle(&mut kept.parts, kept.chief);
@@ -134,6 +136,7 @@ fn level_at<C: Cluster>(
         (told_of (get object_cmp known.new object) (column (seat_view C.at C.losses C.count) seats.new.items object)) }
     ensures losses { C.File.tells → losses_of (seat_view C.at C.losses C.count) seats.new.items object
         ≡ losses_of (seat_view C.at C.losses C.count) seats.old.items object }
+    ensures held { AllLevelled C.File.tells (seat_view C.at C.losses C.count) object seats.old.items seats.new.items }
 {
     let places = seats.len();
     if let Some(kept) = known.get_mut(&object) {
@@ -144,7 +147,7 @@ fn level_at<C: Cluster>(
 }
 
 // Brings the members' copies of each object of the list to one content.
-fn level_all<C: Cluster>(seats: &mut Vec<Seat<C>>, known: &mut BTreeMap<ObjectId, Known<C::File>>)
+pub(crate) fn level_all<C: Cluster>(seats: &mut Vec<Seat<C>>, known: &mut BTreeMap<ObjectId, Known<C::File>>)
     requires can { (q : ObjectId) → CanLevel C.File.tells (seat_view C.at C.losses C.count) q seats.old.items (get object_cmp known.old q) }
     requires sound { AreSound C.File.tells (seat_view C.at C.losses C.count) seats.old.items known.old.entries }
     ensures sound { AreSound C.File.tells (seat_view C.at C.losses C.count) seats.new.items known.new.entries }
@@ -155,6 +158,7 @@ fn level_all<C: Cluster>(seats: &mut Vec<Seat<C>>, known: &mut BTreeMap<ObjectId
         ≡ losses_of (seat_view C.at C.losses C.count) seats.old.items q }
     ensures later { counts_of (seat_view C.at C.losses C.count) seats.old.items
         ≤ counts_of (seat_view C.at C.losses C.count) seats.new.items }
+    ensures each { AllEndure C.File.tells (seat_view C.at C.losses C.count) seats.old.items seats.new.items }
 {
     let mut last = None;
     while let Some(object) = next_object(known, last) {

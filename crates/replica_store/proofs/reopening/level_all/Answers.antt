@@ -14,7 +14,7 @@ pub level_at-requires-clause-sound : goal.level_at-requires-clause-sound
 level_at-requires-clause-sound g c = c.loop-object.invariant.sound c.in-Some.object
 
 pub loop-object-preserved : goal.loop-object-preserved
-loop-object-preserved g c = walk_on _ _ exact _ _ _ _ _ _ _ _ c.loop-object.invariant c.in-Some.ensures.behind c.in-Some.ensures.first c.level_at.ensures.touched c.level_at.ensures.sound c.level_at.ensures.others c.level_at.ensures.keys c.level_at.ensures.image c.level_at.ensures.losses
+loop-object-preserved g c = walk_on _ _ exact _ _ _ _ _ _ _ _ c.loop-object.invariant c.in-Some.ensures.behind c.in-Some.ensures.first c.level_at.ensures.touched c.level_at.ensures.sound c.level_at.ensures.others c.level_at.ensures.keys c.level_at.ensures.image c.level_at.ensures.losses c.level_at.ensures.held
 
 pub loop-object-smaller : goal.loop-object-smaller
 loop-object-smaller g c = fewer_behind _ _ _ _ c.in-Some.ensures.behind (in_keys _ _ c.in-Some.ensures.found) c.level_at.ensures.keys
@@ -30,3 +30,6 @@ returns-clause-losses g c = c.loop-object.invariant.losses
 
 pub returns-clause-later : goal.returns-clause-later
 returns-clause-later g c = c.loop-object.invariant.later
+
+pub returns-clause-each : goal.returns-clause-each
+returns-clause-each g c = c.loop-object.invariant.each

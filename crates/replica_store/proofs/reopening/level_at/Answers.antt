@@ -1,5 +1,6 @@
 use Rattle.std.proofs.Common.{rules, ◌≡◌, length, sym}
 use Rattle.replica_store.proofs.Walking.{not_out, touch_same}
+use Rattle.replica_store.proofs.Enduring.{levelled_same}
 use Rattle.replica_store.proofs.reopening.level_at.Goals as goal
 
 pub returns-else-is_in-clause-touched : goal.returns-else-is_in-clause-touched
@@ -12,3 +13,9 @@ returns-else-is_in-clause-image g c = λ before awaits told.
 
 pub returns-in_default-clause-touched : goal.returns-in_default-clause-touched
 returns-in_default-clause-touched g c = touch_same _ _ _ _
+
+pub returns-else-is_in-clause-held : goal.returns-else-is_in-clause-held
+returns-else-is_in-clause-held g c = levelled_same _ _ _ _
+
+pub returns-in_default-clause-held : goal.returns-in_default-clause-held
+returns-in_default-clause-held g c = levelled_same _ _ _ _

@@ -1,7 +1,7 @@
 use Rattle.std.proofs.Common.{refl, arith}
 use Rattle.replica_store.proofs.InTurn.{as_many}
 use Rattle.replica_store.proofs.Pairs.{same_length}
-use Rattle.replica_store.proofs.Reopened.{all_part, all_touch, given_end, level_end, many_parts, same_losses}
+use Rattle.replica_store.proofs.Reopened.{all_levelled, all_part, all_touch, given_end, level_end, many_parts, same_losses}
 use Rattle.replica_store.proofs.reopening.level_kept.Goals as goal
 
 pub give_each-requires : goal.give_each-requires
@@ -28,3 +28,6 @@ returns-clause-given_up g c = rw (← c.kept.view_is) (given_end _ _ _ _ _ _ _ _
 
 pub returns-clause-losses : goal.returns-clause-losses
 returns-clause-losses g c = same_losses _ _ _ _ _ _ _ _ _ _ c.take_each.ensures c.settle-lead.ensures.pairs c.give_each.ensures
+
+pub returns-clause-held : goal.returns-clause-held
+returns-clause-held g c = all_levelled _ _ _ _ _ _ _ _ _ _ c.take_each.ensures c.settle-lead.ensures.pairs c.give_each.ensures
