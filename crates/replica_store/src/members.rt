@@ -1,15 +1,17 @@
 // What one call of a replicated store does in one member.
-ghost use Rattle.std.specs.Prelude.{◌≡◌, ◌≤◌, ◌-◌, min, take, length, true, false, IfSome, IfNone, IfOk, IsErrOf};
+ghost use Rattle.std.specs.Prelude.{◌≡◌, ◌≤◌, ◌-◌, min, take, length, true, false, IfSome, IfNone, IfOk, IsErrOf, OnOk};
 ghost use Rattle.gw_model.specs.declared.object.ObjectId.{ObjectId};
 ghost use Rattle.append_store.specs.State.{IsAway, IsThere, bytes_of};
-ghost use Rattle.append_store.specs.Calls.{IsRising, part_at};
+ghost use Rattle.append_store.specs.Calls.{Creates, IsRising, part_at};
 ghost use Rattle.replica_store.specs.Seats.{IsUnused, seat_view};
+ghost use Rattle.replica_store.specs.Starting.{Supplies};
 ghost use Rattle.replica_store.specs.Steps.{Deletes, Gives, IsListedBy, IsTried, Makes, Stays, Takes, Unmakes};
 
 use crate::parts::Part;
 use crate::seats::Seat;
 use append_store::{Cluster, CreateFault, ListFault};
 use gw_model::{KeptObject, ObjectId};
+use std::alloc::AllocError;
 
 // Deletes an object in one member, if it is called, and drops it where that fails.
 pub(crate) fn delete_one<C: Cluster>(seat: &mut Seat<C>, object: ObjectId, part: &mut Part<C::File>)
@@ -36,6 +38,21 @@ pub(crate) fn make_one<C: Cluster>(seat: &mut Seat<C>, object: ObjectId, part: &
         }
     }
     part.live = seat.live;
+}
+
+// Makes an object in one member, if it is called and lacks it, and drops it where that fails.
+pub(crate) fn supply_one<C: Cluster>(seat: &mut Seat<C>, object: ObjectId) -> Result<(), AllocError>
+    ensures each { Supplies C.File.tells object (seat_view C.at C.losses C.count seat.old) (seat_view C.at C.losses C.count seat.new) }
+    ensures done { OnOk result (C.File.tells → seat.new.live ≡ true → Creates (C.at seat.old.cluster object) (C.at seat.new.cluster object)) }
+{
+    if seat.live {
+        match seat.cluster.create(object) {
+            Ok(()) => {}
+            Err(CreateFault::Fault) => seat.live = false,
+            Err(CreateFault::Memory) => return Err(AllocError),
+        }
+    }
+    Ok(())
 }
 
 // Deletes in one member what the last creation made, and drops it where that fails.

@@ -1,19 +1,21 @@
 // What one call of a replicated store does in each member, one after another.
-ghost use Rattle.std.specs.Prelude.{◌≡◌, ◌≤◌, ◌-◌, ℕ, List, min, take, length, true, false, IfSome, IfNone, IfOk, IsErrOf};
+ghost use Rattle.std.specs.Prelude.{◌≡◌, ◌≤◌, ◌-◌, ℕ, List, min, take, length, true, false, IfSome, IfNone, IfOk, IsErrOf, OnOk};
 ghost use Rattle.std.specs.List.{AllByRecursion, AllZip};
 ghost use Rattle.gw_model.specs.declared.object.ObjectId.{ObjectId};
 ghost use Rattle.append_store.specs.State.{IsAway, IsThere};
-ghost use Rattle.append_store.specs.Calls.{IsRising, part_at};
+ghost use Rattle.append_store.specs.Calls.{Creates, IsRising, part_at};
 ghost use Rattle.replica_store.specs.Seats.{IsUnused, seat_view};
+ghost use Rattle.replica_store.specs.Starting.{Supplies};
 ghost use Rattle.replica_store.specs.Steps.{AllHave, Deletes, Gives, IsListedBy, IsTried, Makes, SomeSeat, Stays, Takes, Together, Unmakes};
 
 use crate::members::{
-    delete_one, give_one, list_one, make_one, read_closed_one, take_one, unmake_one,
+    delete_one, give_one, list_one, make_one, read_closed_one, supply_one, take_one, unmake_one,
 };
 use crate::parts::Part;
 use crate::seats::Seat;
 use append_store::{Cluster, ListFault};
 use gw_model::{KeptObject, ObjectId};
+use std::alloc::AllocError;
 
 // Deletes an object in each member that is called, and drops those where that fails.
 pub(crate) fn delete_each<C: Cluster>(
@@ -76,6 +78,20 @@ pub(crate) fn give_each<C: Cluster>(
     for i in 0..seats.len() {
         give_one(&mut seats[i], object, &mut parts[i]);
     }
+}
+
+// Makes an object in each member that is called and lacks it, and drops those where that fails, until
+// one is refused memory.
+pub(crate) fn supply_each<C: Cluster>(seats: &mut Vec<Seat<C>>, object: ObjectId) -> Result<(), AllocError>
+    ensures each { AllZip (λ s t. Supplies C.File.tells object (seat_view C.at C.losses C.count s) (seat_view C.at C.losses C.count t))
+        seats.old.items seats.new.items }
+    ensures done { OnOk result (AllZip (λ s t. C.File.tells → t.live ≡ true → Creates (C.at s.cluster object) (C.at t.cluster object))
+        seats.old.items seats.new.items) }
+{
+    for seat in seats.iter_mut() {
+        supply_one(seat, object)?;
+    }
+    Ok(())
 }
 
 // Deletes in each member what the last creation made, and drops those where that fails.
