@@ -19,6 +19,7 @@ pub mod Reopened
 mod Rows
 pub mod Seating
 pub mod Serving
+pub mod Started
 pub mod Supplying
 pub mod Taking
 pub mod Told

@@ -45,7 +45,7 @@ may_both Missing b c (inr made) (inr more) = inr (subst (λ s. Creates s c) made
 may_both (Kept bytes durable) b c (inr made) (inr more) = inr (subst (λ s. Creates s c) made more)
 may_both (Lent m) b c (inr made) (inr more) = inr (subst (λ s. Creates s c) made more)
 
-may_missing : (a b : ObjectState) → MayCreate a b → a ≢ Missing → b ≡ a
+pub may_missing : (a b : ObjectState) → MayCreate a b → a ≢ Missing → b ≡ a
 may_missing a b (inl same) other = same
 may_missing Missing b (inr made) other = absurd (other refl)
 may_missing (Kept bytes durable) b (inr made) other = made

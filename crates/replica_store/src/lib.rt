@@ -14,6 +14,7 @@ mod parts;
 mod reopening;
 mod rounds;
 mod seats;
+mod starting;
 mod store;
 
 pub use file::ReplicaFile;

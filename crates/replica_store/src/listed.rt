@@ -1,6 +1,7 @@
 // The list of the objects of a replicated store.
-ghost use Rattle.std.specs.Prelude.{◌≡◌, ◌≢◌, [], length, None, Some, IfOk, IfSome, IfNone, IsSome, OnOk, OnErr};
+ghost use Rattle.std.specs.Prelude.{◌≡◌, ◌≢◌, [], length, true, None, Some, IfOk, IfSome, IfNone, IsSome, OnOk, OnErr};
 ghost use Rattle.std.specs.BTreeMap.{get};
+ghost use Rattle.std.specs.List.{AllByRecursion};
 ghost use Rattle.gw_model.specs.declared.object.ObjectId.{ObjectId};
 ghost use Rattle.append_store.specs.Calls.{object_cmp};
 
@@ -13,7 +14,7 @@ use std::collections::BTreeMap;
 use std::mem::replace;
 
 // Something that stands in the list while what is kept of an object is worked on.
-fn hollow<F: AppendFile>(alloc: Global) -> Known<F>
+pub(crate) fn hollow<F: AppendFile>(alloc: Global) -> Known<F>
     ensures { result ≡ record { chief = 0; synced = 0; parts = [] } }
 {
     Known {
@@ -23,30 +24,31 @@ fn hollow<F: AppendFile>(alloc: Global) -> Known<F>
     }
 }
 
-// A place for each member, of which none takes part.
+// A place for each member, each of which takes part.
 pub(crate) fn places<F: AppendFile>(alloc: Global, count: usize) -> Result<Vec<Part<F>>, AllocError>
-    ensures { IfOk result (λ parts. length parts.items ≡ count) }
+    ensures count { IfOk result (λ parts. length parts.items ≡ count) }
+    ensures live { IfOk result (λ parts. AllByRecursion (λ p. p.live ≡ true) parts.items) }
 {
     let mut parts = Vec::new(alloc);
     for place in 0..count {
         let _ = place;
-        parts.push(Part::missing())?;
+        parts.push(Part::waiting())?;
     }
     Ok(parts)
 }
 
 // Gives an object that isn't in the list a place there.
 pub(crate) fn enter<F: AppendFile>(
-    alloc: Global,
     known: &mut BTreeMap<ObjectId, Known<F>>,
     object: ObjectId,
+    kept: Known<F>,
 ) -> Result<(), AllocError>
     requires { get object_cmp known.old object ≡ None }
-    ensures here { OnOk result (IsSome (get object_cmp known.new object)) }
+    ensures here { OnOk result (get object_cmp known.new object ≡ Some kept) }
     ensures refused { OnErr result (get object_cmp known.new object ≡ None) }
     ensures others { (q : ObjectId) → q ≢ object → get object_cmp known.new q ≡ get object_cmp known.old q }
 {
-    known.insert(object, hollow(alloc))?;
+    known.insert(object, kept)?;
     Ok(())
 }
 

@@ -9,7 +9,7 @@ ghost use Rattle.replica_store.specs.Objects.{AreSound, CreatesIn, DeletesIn, Gi
 
 use crate::file::ReplicaFile;
 use crate::kept::{Creation, delete_kept, give_kept, make_kept, take_kept};
-use crate::listed::{enter, lift, places, places_of, put_back, strike};
+use crate::listed::{enter, hollow, lift, places, places_of, put_back, strike};
 use crate::seats::{Known, Seat};
 use append_store::Cluster;
 use gw_model::ObjectId;
@@ -29,7 +29,7 @@ fn create_new<C: Cluster>(
         known.old.entries known.new.entries result }
 {
     let parts = places(alloc, seats.len())?;
-    enter(alloc, known, object)?;
+    enter(known, object, hollow(alloc))?;
     let mut kept = Known {
         chief: 0,
         synced: 0,

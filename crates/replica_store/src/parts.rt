@@ -51,6 +51,17 @@ impl<F: AppendFile> Part<F> {
         }
     }
 
+    // The place of a member that takes part, and has its file.
+    pub(crate) fn waiting() -> Self
+        ensures { result ≡ empty_part true 0 }
+    {
+        Part {
+            file: None,
+            live: true,
+            kept: 0,
+        }
+    }
+
     /// Whether the file is still written.
     pub fn is_live(&self) -> bool
         ensures { result ≡ self.now.live }
