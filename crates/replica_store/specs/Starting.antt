@@ -1,13 +1,14 @@
 -- How a store is made over members that have objects: each object comes to be in each of them, and the copies are made equal.
-use Rattle.std.specs.Prelude.{◌≡◌, ◌≢◌, ◌^◌, ◌<◌, ◌≤◌, ℕ, List, length, take, true, Bool, Option, Some, None, Result, Ok, Err}
+use Rattle.std.specs.Prelude.{◌≡◌, ◌≢◌, ◌^◌, ◌<◌, ◌≤◌, ℕ, List, length, take, true, Option, Some, None}
 use Rattle.std.specs.List.{AllByRecursion, AllZip}
 use Rattle.gw_model.specs.declared.object.ObjectId.{ObjectId}
 use Rattle.append_store.specs.State.{ObjectState, Missing, Kept, Lent, IsAway, IsThere}
 use Rattle.append_store.specs.Calls.{MayCreate}
-use Rattle.replica_store.specs.Parts.{PartState}
-use Rattle.replica_store.specs.Reopening.{AllUntouched}
+use Rattle.replica_store.specs.Reopening.{AllUntouched, needed_of}
 use Rattle.replica_store.specs.Seats.{KnownState, SeatView, IsCalledAt, called_of, column, known_at, state_of}
 use Rattle.replica_store.specs.Steps.{SomeSeat, Touches}
+use Rattle.replica_store.specs.declared.starting.ReplicaFault.{ReplicaFault}
+use Rattle.replica_store.specs.declared.starting.ReplicaFault.TheVariants.{TooFew, Memory}
 
 -- these bytes are a front of what is there, and so many are durable at least
 pub record IsContinued (bytes : List ℕ) (least : ℕ) (new : ObjectState) : Type 0 where
@@ -110,3 +111,8 @@ abbrev pub StartsAs : {X : Type 0} → (X → SeatView) → ObjectId → List �
 StartsAs v q bytes olds news Missing = AllZip (λ s t. (v t).live ≡ true → (v s).at q ≡ Missing) olds news
 StartsAs v q bytes olds news (Kept content durable) = IsStarted v q bytes olds news content durable
 StartsAs v q bytes olds news (Lent m) = ⊥
+
+-- why no store was made: fewer members are called than have to be, or memory was refused
+abbrev pub IsUnstarted : {X : Type 0} → (X → SeatView) → List X → ℕ → ReplicaFault → Type 0
+IsUnstarted v ss quorum (TooFew live) = (live ≡ called_of v ss) × (called_of v ss < needed_of (length ss) quorum)
+IsUnstarted v ss quorum Memory = Unit {0}

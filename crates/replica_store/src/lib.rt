@@ -21,6 +21,7 @@ pub use file::ReplicaFile;
 pub use marks::marks_law;
 pub use parts::Part;
 pub use seats::{Known, Seat};
+pub use starting::{ReplicaFault, Unstarted};
 pub use store::Replica;
 
 #[cfg(test)]

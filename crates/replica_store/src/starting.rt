@@ -21,6 +21,27 @@ use gw_model::{KeptObject, ObjectId};
 use std::alloc::{AllocError, Global};
 use std::collections::BTreeMap;
 
+/// Why no store was made over members.
+#[derive(Clone, Copy, Debug, PartialEq, Eq)]
+pub enum ReplicaFault {
+    /// Too few members were left: how many.
+    TooFew {
+        /// How many of the members weren't dropped.
+        live: usize,
+    },
+    /// Memory was refused.
+    Memory,
+}
+
+/// Members over which no store was made. Each has what it had, perhaps with more behind it.
+#[derive(Drop)]
+pub struct Unstarted<C> {
+    /// All members that were handed in, in their order.
+    pub seats: Vec<Seat<C>>,
+    /// Why no store was made.
+    pub fault: ReplicaFault,
+}
+
 // Enters an object that this member has into the list, unless it is there, and makes it in each member
 // that lacks it. Takes memory.
 fn introduce<C: Cluster>(

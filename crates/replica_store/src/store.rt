@@ -1,11 +1,13 @@
 // A store over several stores, each of which has a copy of every object.
-ghost use Rattle.std.specs.Prelude.{◌≡◌, ◌<◌};
+ghost use Rattle.std.specs.Prelude.{◌≡◌, ◌<◌, ◌≤◌, ℕ, List, length, IfErr, IfOk};
 ghost use Rattle.std.specs.List.{AllByRecursion};
 ghost use Rattle.gw_model.specs.declared.object.ObjectId.{ObjectId};
 ghost use Rattle.gw_outside.specs.Tally.{no_calls};
 ghost use Rattle.append_store.specs.State.{Missing};
 ghost use Rattle.replica_store.specs.Kept.{AllUnused};
+ghost use Rattle.replica_store.specs.Reopening.{IsOutOfNone, needed_of};
 ghost use Rattle.replica_store.specs.Seats.{called_of, seat_view, told_in};
+ghost use Rattle.replica_store.specs.Starting.{AllEndure, AreCutOf, IsUnstarted, StartsAs};
 
 use crate::calls::Answered;
 use crate::file::ReplicaFile;
@@ -13,6 +15,7 @@ use crate::objects::{create_in, delete_in, give_in, take_in};
 use crate::reopening::{needed, reopen_in};
 use crate::rounds::{list_first, read_closed_first};
 use crate::seats::{Known, Seat, count_called, count_failures};
+use crate::starting::{ReplicaFault, Unstarted, start_in};
 use append_store::{AppendFile, Cluster, CreateFault, ListFault, StoreFault};
 use gw_model::{KeptObject, ObjectId};
 use std::alloc::Global;
@@ -62,6 +65,49 @@ impl<C: Cluster> Replica<C> {
             quorum,
             answered: Answered::new(),
         }
+    }
+
+    /// A store over members that may have objects, as a crash left them. A call is done where at least
+    /// `quorum` of them, 1 or more, did it. Each object of a member is made in those that lack it, and
+    /// each copy is brought to the longest one's content by appends, and made durable; a member where
+    /// a call fails is dropped. Fails exactly where fewer members are left than the greater of the
+    /// quorum and as many as leave less than a quorum out, or where memory is refused; all members are
+    /// handed back then. Takes memory.
+    pub fn start(
+        alloc: Global,
+        seats: Vec<Seat<C>>,
+        quorum: usize,
+    ) -> Result<Replica<C>, Unstarted<C>>
+        requires quorum { 0 < quorum }
+        requires inside { (q : ObjectId) → IsOutOfNone C.File.tells (seat_view C.at C.losses C.count) q seats.items }
+        ensures started { IfOk result (λ r. C.File.tells → (q : ObjectId) (bytes : List ℕ)
+            → AreCutOf (seat_view C.at C.losses C.count) q bytes seats.items
+            → StartsAs (seat_view C.at C.losses C.count) q bytes seats.items r.seats (told_in (seat_view C.at C.losses C.count) r q)) }
+        ensures each { IfOk result (λ r. AllEndure C.File.tells (seat_view C.at C.losses C.count) seats.items r.seats) }
+        ensures back { IfErr result (λ e. AllEndure C.File.tells (seat_view C.at C.losses C.count) seats.items e.seats.items) }
+        ensures enough { IfOk result (λ r. needed_of (length r.seats) quorum ≤ called_of (seat_view C.at C.losses C.count) r.seats) }
+        ensures few { IfErr result (λ e. IsUnstarted (seat_view C.at C.losses C.count) e.seats.items quorum e.fault) }
+        ensures quorum { IfOk result (λ r. r.quorum ≡ quorum) }
+        ensures no_calls { IfOk result (λ r. r.answered ≡ record { refusals = 0; tally = no_calls }) }
+    {
+        let mut seats = seats;
+        let mut known = BTreeMap::new(alloc);
+        if start_in(alloc, &mut seats, &mut known).is_err() {
+            let fault = ReplicaFault::Memory;
+            return Err(Unstarted { seats, fault });
+        }
+        let live = count_called(&seats);
+        if live < needed(seats.len(), quorum) {
+            let fault = ReplicaFault::TooFew { live };
+            return Err(Unstarted { seats, fault });
+        }
+        Ok(Replica {
+            alloc,
+            seats,
+            known,
+            quorum,
+            answered: Answered::new(),
+        })
     }
 
     /// The members, in their order, each with its objects.
