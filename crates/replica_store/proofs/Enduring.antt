@@ -1,7 +1,5 @@
 -- What a member had it has, through one call after another.
-use Rattle.std.proofs.Common.{◌≡◌, ◌≢◌, ◌≤◌, ◌⊎◌, inl, inr, ℕ, List, [], ◌∷◌, length, take, refl, sym, ◌∙◌, subst, arith}
-use Rattle.std.proofs.lemmas.List.{take_all}
-use Rattle.std.specs.List.{AllZip}
+use Rattle.std.proofs.Common.{◌≡◌, ◌≢◌, ◌⊎◌, inl, inr, List, [], ◌∷◌, refl, sym, ◌∙◌, subst, arith}
 use Rattle.gw_model.specs.declared.object.ObjectId.{ObjectId}
 use Rattle.append_store.specs.State.{ObjectState, Missing, Kept, Lent, IsAway}
 use Rattle.replica_store.specs.Kept.{AllTouch}

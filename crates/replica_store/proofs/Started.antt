@@ -1,18 +1,18 @@
 -- What the store tells after a start, by what the members had.
-use Rattle.std.proofs.Common.{◌≡◌, ◌≢◌, ◌≤◌, ◌⊎◌, inl, inr, ◌+◌, ◌<◌, ◌^◌, ℕ, zero, suc, List, [], ◌∷◌, length, take, drop, min, Bool, true, false, is_some, IsSome, Result, Ok, Err, OnOk, Option, Some, None, refl, sym, ◌∙◌, ap, subst, arith, get_or, set}
+use Rattle.std.proofs.Common.{◌≡◌, ◌≤◌, ◌⊎◌, inl, inr, ◌+◌, ◌<◌, ℕ, zero, suc, List, [], ◌∷◌, length, take, drop, Bool, true, false, is_some, IsSome, Result, Ok, Err, OnOk, Option, Some, None, refl, sym, ◌∙◌, ap, subst, arith, get_or, set}
 use Rattle.std.proofs.lemmas.List.{length-take}
 use Rattle.std.specs.List.{AllByRecursion, AllZip}
 use Rattle.gw_model.specs.declared.object.KeptObject.{KeptObject}
 use Rattle.gw_model.specs.declared.object.ObjectId.{ObjectId}
 use Rattle.append_store.specs.State.{ObjectState, Missing, Kept, Lent, IsAway, IsCrashImage, IsThere, bytes_of}
-use Rattle.append_store.specs.Calls.{Creates, Has, HasLength, Lists, MayCreate}
+use Rattle.append_store.specs.Calls.{Has, HasLength, Lists, MayCreate}
 use Rattle.replica_store.specs.Kept.{AllUnused}
 use Rattle.replica_store.specs.Objects.{AreSound, told_at}
 use Rattle.replica_store.specs.Parts.{PartState}
 use Rattle.replica_store.specs.Reopening.{AllUntouched, Awaits, AwaitsLevel, CanLevel, HasFront, IsOutOfNone}
-use Rattle.replica_store.specs.Seats.{KnownState, SeatView, AllTakePart, IsCalledAt, IsSoundAt, TakesPart, column, known_at, state_of, told_of}
+use Rattle.replica_store.specs.Seats.{KnownState, SeatView, AllTakePart, IsCalledAt, IsSoundAt, TakesPart, column, known_at, state_of}
 use Rattle.replica_store.specs.Starting.{AllEndure, AllMayAdd, AreCutOf, AreSupplied, Endures, Introduces, IsListedAt, IsStarted, IsSupplied, IsSuppliedAt, MayAdd, MayHave, StartsAs, Upholds}
-use Rattle.replica_store.specs.Steps.{AllHave, IsListedBy, SomeSeat, Stays}
+use Rattle.replica_store.specs.Steps.{AllHave, IsListedBy, Stays}
 use Rattle.replica_store.proofs.Asking.{have_all, stays_self}
 use Rattle.replica_store.proofs.Enduring.{upholds_same}
 use Rattle.replica_store.proofs.Supplying.{may_missing}

@@ -1,15 +1,13 @@
 -- An object comes to be in each member.
-use Rattle.std.proofs.Common.{◌≡◌, ◌≢◌, ◌≤◌, ◌⊎◌, inl, inr, ◌<◌, ℕ, zero, suc, List, [], ◌∷◌, length, Option, Some, None, true, refl, sym, ◌∙◌, ap, subst, arith}
+use Rattle.std.proofs.Common.{◌≡◌, ◌≢◌, ◌≤◌, ◌⊎◌, inl, inr, ℕ, zero, suc, List, [], ◌∷◌, length, Option, Some, None, true, refl, sym, ◌∙◌, ap, subst, arith}
 use Rattle.std.specs.List.{AllByRecursion, AllZip}
 use Rattle.gw_model.specs.declared.object.ObjectId.{ObjectId}
 use Rattle.append_store.specs.State.{ObjectState, Missing, Kept, Lent, IsAway, IsThere}
 use Rattle.append_store.specs.Calls.{Creates, MayCreate}
-use Rattle.replica_store.specs.Kept.{AllTouch}
-use Rattle.replica_store.specs.Parts.{PartState}
 use Rattle.replica_store.specs.Reopening.{AllUntouched, IsOutOfNone}
 use Rattle.replica_store.specs.Seats.{KnownState, SeatView, column, known_at, state_of}
 use Rattle.replica_store.specs.Starting.{AllMayAdd, AreSupplied, Introduces, IsSupplied, IsSuppliedAt, MayAdd, Supplies}
-use Rattle.replica_store.specs.Steps.{SomeSeat, Touches}
+use Rattle.replica_store.specs.Steps.{SomeSeat}
 use Rattle.replica_store.proofs.Changes.{same_name}
 
 pub supplies_self : (told : Type 0) (object : ObjectId) (s : SeatView) → Supplies told object s s

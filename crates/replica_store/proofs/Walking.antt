@@ -1,6 +1,6 @@
 -- The list of the objects is walked in its order, and the copies of each are made equal.
 use Rattle.std.proofs.Common.{◌≡◌, ◌≢◌, ◌⊎◌, inl, inr, ◌≤◌, ℕ, Bool, true, false, List, [], ◌∷◌, length, Option, Some, None, IsSome, is_some, Ordering, Less, Equal, Greater, refl, sym, ◌∙◌, ap, subst, arith}
-use Rattle.std.specs.List.{AllByRecursion, AllZip}
+use Rattle.std.specs.List.{AllByRecursion}
 use Rattle.std.specs.Ordering.{ordering_reverse}
 use Rattle.std.specs.Map.{keys_of}
 use Rattle.gw_model.specs.declared.object.ObjectId.{ObjectId}

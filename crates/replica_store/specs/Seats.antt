@@ -140,7 +140,8 @@ IsSoundAt told v ss q None = AllByRecursion (λ s. IsUnused told q (v s)) ss
 IsSoundAt told v ss q (Some k) = AllTakePart v ss k.parts
 
 -- the list and the members go together
-pub record IsSound {X : Type 0} (told : Type 0) (v : X → SeatView) (ss : List X) (known : List (ObjectId × KnownState)) (quorum : ℕ) : Type 0 where
+pub record IsSound {X : Type 0} (told : Type 0) (v : X → SeatView) (ss : List X)
+    (known : List (ObjectId × KnownState)) (quorum : ℕ) : Type 0 where
   pub enough : 0 < quorum
   pub each : (q : ObjectId) → IsSoundAt told v ss q (known_at known q)
 

@@ -76,7 +76,8 @@ abbrev pub AreSupplied : {X : Type 0} → Type 0 → (X → SeatView) → List X
 AreSupplied told v ss known = (q : ObjectId) → IsSuppliedAt told v q ss (known_at known q)
 
 -- objects came into the list that a member had; those that aren't in it are as they were
-pub record Introduces {X : Type 0} (told : Type 0) (v : X → SeatView) (olds news : List X) (old new : List (ObjectId × KnownState)) : Type 0 where
+pub record Introduces {X : Type 0} (told : Type 0) (v : X → SeatView) (olds news : List X)
+    (old new : List (ObjectId × KnownState)) : Type 0 where
   pub before : (q : ObjectId) → known_at new q ≡ None → known_at old q ≡ None
   pub rest : (q : ObjectId) → known_at new q ≡ None → AllUntouched told v q olds news
   pub from : told → (q : ObjectId) → known_at old q ≡ None → known_at new q ≢ None → SomeSeat (λ s. IsThere ((v s).at q)) olds
@@ -99,7 +100,8 @@ pub record AreCutOf {X : Type 0} (v : X → SeatView) (q : ObjectId) (bytes : Li
 
 -- the store tells these bytes: a front of them is what each member that is called had, so none of those had more; and some
 -- member had the object
-pub record IsStarted {X : Type 0} (v : X → SeatView) (q : ObjectId) (bytes : List ℕ) (olds news : List X) (content : List ℕ) (durable : ℕ) : Type 0 where
+pub record IsStarted {X : Type 0} (v : X → SeatView) (q : ObjectId) (bytes : List ℕ) (olds news : List X)
+    (content : List ℕ) (durable : ℕ) : Type 0 where
   pub front : content ≡ take (length content) bytes
   pub all : durable ≡ length content
   pub most : AllZip (λ s t. (v t).live ≡ true → MayHave content ((v s).at q)) olds news

@@ -41,7 +41,10 @@ impl Answered {
 
     // Adds the calls of a file that was given back, and so many faults.
     pub(crate) fn join(&mut self, refusals: u64, tally: Tally)
-        ensures { self.new ≡ record { refusals = min (self.old.refusals + refusals) (2 ^ 64 - 1); tally = joined_tally self.old.tally tally } }
+        ensures { self.new ≡ record {
+          refusals = min (self.old.refusals + refusals) (2 ^ 64 - 1);
+          tally = joined_tally self.old.tally tally;
+        } }
     {
         self.refusals = self.refusals.saturating_add(refusals);
         self.tally.join(tally);

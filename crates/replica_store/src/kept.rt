@@ -37,7 +37,8 @@ pub(crate) fn delete_kept<C: Cluster>(
     requires part { AllTakePart (seat_view C.at C.losses C.count) seats.old.items kept.old.parts }
     requires places { length kept.old.parts ≡ length seats.old.items }
     ensures touched { AllTouch C.File.tells (seat_view C.at C.losses C.count) object seats.old.items seats.new.items }
-    ensures deleted { Deleted C.File.tells (seat_view C.at C.losses C.count) object seats.old.items seats.new.items kept.old kept.new result }
+    ensures deleted { Deleted C.File.tells (seat_view C.at C.losses C.count) object seats.old.items seats.new.items kept.old kept.new
+        result }
 {
     delete_each(seats, object, &mut kept.parts);
     first_called(seats).is_some()
@@ -129,13 +130,16 @@ pub(crate) fn give_kept<C: Cluster>(
     requires places { length kept.old.parts ≡ length seats.old.items }
     ensures touched { AllTouch C.File.tells (seat_view C.at C.losses C.count) object seats.old.items seats.new.items }
     ensures part { AllTakePart (seat_view C.at C.losses C.count) seats.new.items kept.new.parts }
-    ensures own { C.File.tells → map mark_in (column (seat_view C.at C.losses C.count) seats.old.items object) ≡ map (λ p. p.mark) kept.old.parts
+    ensures own { C.File.tells → map mark_in (column (seat_view C.at C.losses C.count) seats.old.items object) ≡ map (λ p. p.mark)
+        kept.old.parts
         → AreCopies C.File.tells kept.old.parts kept.old.chief kept.old.synced
         → told_now (seat_view C.at C.losses C.count) object seats.new.items kept.new
-        ≡ Kept (part_of kept.old.parts kept.old.chief).content (min kept.old.synced (length (part_of kept.old.parts kept.old.chief).content)) }
+        ≡ Kept (part_of kept.old.parts kept.old.chief).content
+        (min kept.old.synced (length (part_of kept.old.parts kept.old.chief).content)) }
     ensures own_losses { C.File.tells
         → map mark_in (column (seat_view C.at C.losses C.count) seats.old.items object) ≡ map (λ p. p.mark) kept.old.parts
-        → losses_of (seat_view C.at C.losses C.count) seats.new.items object ≡ losses_of (seat_view C.at C.losses C.count) seats.old.items object }
+        → losses_of (seat_view C.at C.losses C.count) seats.new.items object ≡ losses_of (seat_view C.at C.losses C.count) seats.old.items
+        object }
     ensures losses { C.File.tells → losses_of (seat_view C.at C.losses C.count) seats.old.items object
         ≤ losses_of (seat_view C.at C.losses C.count) seats.new.items object }
     ensures count { Carries (counts_of (seat_view C.at C.losses C.count) seats.old.items) (counts kept.old.parts)

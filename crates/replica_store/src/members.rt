@@ -16,7 +16,8 @@ use std::alloc::AllocError;
 // Deletes an object in one member, if it is called, and drops it where that fails.
 pub(crate) fn delete_one<C: Cluster>(seat: &mut Seat<C>, object: ObjectId, part: &mut Part<C::File>)
     requires { C.File.tells → seat.old.live ≡ true → IsThere (C.at seat.old.cluster object) }
-    ensures { Deletes C.File.tells object (seat_view C.at C.losses C.count seat.old) (seat_view C.at C.losses C.count seat.new) part.old part.new }
+    ensures { Deletes C.File.tells object (seat_view C.at C.losses C.count seat.old) (seat_view C.at C.losses C.count seat.new) part.old
+        part.new }
 {
     if seat.live && seat.cluster.delete(object).is_err() {
         seat.live = false;
@@ -27,7 +28,8 @@ pub(crate) fn delete_one<C: Cluster>(seat: &mut Seat<C>, object: ObjectId, part:
 // Makes an object in one member, if it is called, and drops it where that fails.
 pub(crate) fn make_one<C: Cluster>(seat: &mut Seat<C>, object: ObjectId, part: &mut Part<C::File>)
     requires { IsUnused C.File.tells object (seat_view C.at C.losses C.count seat.old) }
-    ensures { Makes C.File.tells object (seat_view C.at C.losses C.count seat.old) (seat_view C.at C.losses C.count seat.new) part.old part.new }
+    ensures { Makes C.File.tells object (seat_view C.at C.losses C.count seat.old) (seat_view C.at C.losses C.count seat.new) part.old
+        part.new }
 {
     seat.made = false;
     if seat.live {
@@ -43,7 +45,8 @@ pub(crate) fn make_one<C: Cluster>(seat: &mut Seat<C>, object: ObjectId, part: &
 // Makes an object in one member, if it is called and lacks it, and drops it where that fails.
 pub(crate) fn supply_one<C: Cluster>(seat: &mut Seat<C>, object: ObjectId) -> Result<(), AllocError>
     ensures each { Supplies C.File.tells object (seat_view C.at C.losses C.count seat.old) (seat_view C.at C.losses C.count seat.new) }
-    ensures done { OnOk result (C.File.tells → seat.new.live ≡ true → Creates (C.at seat.old.cluster object) (C.at seat.new.cluster object)) }
+    ensures done { OnOk result (C.File.tells → seat.new.live ≡ true → Creates (C.at seat.old.cluster object)
+        (C.at seat.new.cluster object)) }
 {
     if seat.live {
         match seat.cluster.create(object) {
@@ -68,7 +71,8 @@ pub(crate) fn unmake_one<C: Cluster>(seat: &mut Seat<C>, object: ObjectId)
 // Takes the file of one member, if it is called and gives it.
 pub(crate) fn take_one<C: Cluster>(seat: &mut Seat<C>, object: ObjectId, part: &mut Part<C::File>)
     requires { C.File.tells → seat.old.live ≡ true → IsThere (C.at seat.old.cluster object) }
-    ensures { Takes C.File.tells object (seat_view C.at C.losses C.count seat.old) (seat_view C.at C.losses C.count seat.new) part.old part.new }
+    ensures { Takes C.File.tells object (seat_view C.at C.losses C.count seat.old) (seat_view C.at C.losses C.count seat.new) part.old
+        part.new }
 {
     *part = Part::missing();
     if seat.live {
@@ -80,7 +84,8 @@ pub(crate) fn take_one<C: Cluster>(seat: &mut Seat<C>, object: ObjectId, part: &
 
 // Gives a member its file back, if it gave one, and drops it where the file was.
 pub(crate) fn give_one<C: Cluster>(seat: &mut Seat<C>, object: ObjectId, part: &mut Part<C::File>)
-    ensures { Gives C.File.tells object (seat_view C.at C.losses C.count seat.old) (seat_view C.at C.losses C.count seat.new) part.old part.new }
+    ensures { Gives C.File.tells object (seat_view C.at C.losses C.count seat.old) (seat_view C.at C.losses C.count seat.new) part.old
+        part.new }
 {
     seat.live = seat.live && part.live;
     part.live = seat.live;
@@ -99,7 +104,8 @@ pub(crate) fn read_closed_one<C: Cluster>(
     requires { C.File.tells → seat.old.live ≡ true → IsThere (C.at seat.old.cluster object) }
     ensures stays { Stays C.File.tells (seat_view C.at C.losses C.count seat.old) (seat_view C.at C.losses C.count seat.new) }
     ensures bound { IfSome result (λ n. n ≤ length out.old) }
-    ensures length { IfSome result (λ n. C.File.tells → n ≡ min (length out.old) (length (bytes_of (C.at seat.old.cluster object)) - offset)) }
+    ensures length { IfSome result (λ n. C.File.tells → n ≡ min (length out.old)
+        (length (bytes_of (C.at seat.old.cluster object)) - offset)) }
     ensures bytes { IfSome result (λ n. C.File.tells → take n out.new ≡ part_at (bytes_of (C.at seat.old.cluster object)) offset n) }
     ensures live { IfSome result (λ n. seat.old.live ≡ true) }
     ensures failed { IfNone result (seat.new.live ≡ false) }

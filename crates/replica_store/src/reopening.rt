@@ -147,7 +147,10 @@ fn level_at<C: Cluster>(
 }
 
 // Brings the members' copies of each object of the list to one content.
-pub(crate) fn level_all<C: Cluster>(seats: &mut Vec<Seat<C>>, known: &mut BTreeMap<ObjectId, Known<C::File>>)
+pub(crate) fn level_all<C: Cluster>(
+    seats: &mut Vec<Seat<C>>,
+    known: &mut BTreeMap<ObjectId, Known<C::File>>,
+)
     requires can { (q : ObjectId) → CanLevel C.File.tells (seat_view C.at C.losses C.count) q seats.old.items (get object_cmp known.old q) }
     requires sound { AreSound C.File.tells (seat_view C.at C.losses C.count) seats.old.items known.old.entries }
     ensures sound { AreSound C.File.tells (seat_view C.at C.losses C.count) seats.new.items known.new.entries }

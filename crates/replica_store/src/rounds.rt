@@ -82,7 +82,10 @@ pub(crate) fn give_each<C: Cluster>(
 
 // Makes an object in each member that is called and lacks it, and drops those where that fails, until
 // one is refused memory.
-pub(crate) fn supply_each<C: Cluster>(seats: &mut Vec<Seat<C>>, object: ObjectId) -> Result<(), AllocError>
+pub(crate) fn supply_each<C: Cluster>(
+    seats: &mut Vec<Seat<C>>,
+    object: ObjectId,
+) -> Result<(), AllocError>
     ensures each { AllZip (λ s t. Supplies C.File.tells object (seat_view C.at C.losses C.count s) (seat_view C.at C.losses C.count t))
         seats.old.items seats.new.items }
     ensures done { OnOk result (AllZip (λ s t. C.File.tells → t.live ≡ true → Creates (C.at s.cluster object) (C.at t.cluster object))
@@ -154,7 +157,8 @@ pub(crate) fn list_first<C: Cluster>(seats: &mut Vec<Seat<C>>) -> Result<Vec<Kep
     requires { AllByRecursion (λ s. C.File.tells → s.live ≡ true → (q : ObjectId) → IsAway (C.at s.cluster q) → ⊥) seats.old.items }
     ensures stays { AllZip (λ s t. Stays C.File.tells (seat_view C.at C.losses C.count s) (seat_view C.at C.losses C.count t))
         seats.old.items seats.new.items }
-    ensures listed { IfOk result (λ all. SomeSeat (λ s. IsListedBy C.File.tells (seat_view C.at C.losses C.count s) all.items) seats.old.items) }
+    ensures listed { IfOk result (λ all. SomeSeat (λ s. IsListedBy C.File.tells (seat_view C.at C.losses C.count s) all.items)
+        seats.old.items) }
     ensures rising { IfOk result (λ all. IsRising all.items) }
     ensures failed { IsErrOf result ListFault.Fault → AllByRecursion (λ s. s.live ≡ false) seats.new.items }
 {

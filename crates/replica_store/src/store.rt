@@ -180,9 +180,11 @@ impl<C: Cluster> Cluster for Replica<C> {
     /// what they made, and those where that fails are dropped.
     fn create(&mut self, object: ObjectId) -> Result<(), CreateFault>
         ensures done { OnOk result (C.File.tells
-            → Creates (told_in (seat_view C.at C.losses C.count) self.old object) (told_in (seat_view C.at C.losses C.count) self.new object)) }
+            → Creates (told_in (seat_view C.at C.losses C.count) self.old object)
+            (told_in (seat_view C.at C.losses C.count) self.new object)) }
         ensures failed { OnErr result (C.File.tells
-            → MayCreate (told_in (seat_view C.at C.losses C.count) self.old object) (told_in (seat_view C.at C.losses C.count) self.new object)) }
+            → MayCreate (told_in (seat_view C.at C.losses C.count) self.old object)
+            (told_in (seat_view C.at C.losses C.count) self.new object)) }
         ensures refused { IsErrOf result CreateFault.Memory → C.File.tells
             → told_in (seat_view C.at C.losses C.count) self.new object ≡ told_in (seat_view C.at C.losses C.count) self.old object }
         ensures others { C.File.tells → (q : ObjectId) → q ≢ object
@@ -230,7 +232,8 @@ impl<C: Cluster> Cluster for Replica<C> {
         ensures no_losses { C.File.tells → (q : ObjectId)
             → losses_in (seat_view C.at C.losses C.count) self.new q ≡ losses_in (seat_view C.at C.losses C.count) self.old q }
         ensures counted { self.new.answered.tally ≡ one_call (is_err result) self.old.answered.tally }
-        ensures cause { HasCause (faults_in (seat_view C.at C.losses C.count) self.old) (faults_in (seat_view C.at C.losses C.count) self.new) result }
+        ensures cause { HasCause (faults_in (seat_view C.at C.losses C.count) self.old)
+            (faults_in (seat_view C.at C.losses C.count) self.new) result }
         ensures few { OnErr result (C.File.tells → called_of (seat_view C.at C.losses C.count) self.new.seats < self.old.quorum) }
     {
         match take_in(
@@ -265,7 +268,8 @@ impl<C: Cluster> Cluster for Replica<C> {
         ensures no_losses { C.File.tells → (q : ObjectId) → q ≢ object
             → losses_in (seat_view C.at C.losses C.count) self.new q ≡ losses_in (seat_view C.at C.losses C.count) self.old q }
         ensures counted { self.new.answered.tally ≡ joined_tally self.old.answered.tally file.answered.tally }
-        ensures count { Carries (faults_in (seat_view C.at C.losses C.count) self.old) (count_in file) (faults_in (seat_view C.at C.losses C.count) self.new) }
+        ensures count { Carries (faults_in (seat_view C.at C.losses C.count) self.old) (count_in file)
+            (faults_in (seat_view C.at C.losses C.count) self.new) }
     {
         let faults = file.faults();
         let (given, answered) = file.into_kept();
@@ -295,7 +299,8 @@ impl<C: Cluster> Cluster for Replica<C> {
         ensures no_losses { C.File.tells → (q : ObjectId)
             → losses_in (seat_view C.at C.losses C.count) self.new q ≡ losses_in (seat_view C.at C.losses C.count) self.old q }
         ensures counted { self.new.answered.tally ≡ one_call (is_err result) self.old.answered.tally }
-        ensures cause { HasCause (faults_in (seat_view C.at C.losses C.count) self.old) (faults_in (seat_view C.at C.losses C.count) self.new) result }
+        ensures cause { HasCause (faults_in (seat_view C.at C.losses C.count) self.old)
+            (faults_in (seat_view C.at C.losses C.count) self.new) result }
         ensures failed { OnErr result (AllByRecursion (λ s. s.live ≡ false) self.new.seats) }
     {
         match read_closed_first(&mut self.seats, object, offset, out) {
@@ -325,7 +330,8 @@ impl<C: Cluster> Cluster for Replica<C> {
         ensures no_losses { C.File.tells → (q : ObjectId) → q ≢ object
             → losses_in (seat_view C.at C.losses C.count) self.new q ≡ losses_in (seat_view C.at C.losses C.count) self.old q }
         ensures counted { self.new.answered.tally ≡ one_call (is_err result) self.old.answered.tally }
-        ensures cause { HasCause (faults_in (seat_view C.at C.losses C.count) self.old) (faults_in (seat_view C.at C.losses C.count) self.new) result }
+        ensures cause { HasCause (faults_in (seat_view C.at C.losses C.count) self.old)
+            (faults_in (seat_view C.at C.losses C.count) self.new) result }
         ensures enough { OnOk result (self.old.quorum ≤ called_of (seat_view C.at C.losses C.count) self.new.seats) }
         ensures few { OnErr result (C.File.tells → called_of (seat_view C.at C.losses C.count) self.new.seats < self.old.quorum) }
     {
@@ -353,7 +359,8 @@ impl<C: Cluster> Cluster for Replica<C> {
         ensures no_losses { C.File.tells → (q : ObjectId)
             → losses_in (seat_view C.at C.losses C.count) self.new q ≡ losses_in (seat_view C.at C.losses C.count) self.old q }
         ensures counted { self.new.answered.tally ≡ one_call (is_err result) self.old.answered.tally }
-        ensures cause { HasCause (faults_in (seat_view C.at C.losses C.count) self.old) (faults_in (seat_view C.at C.losses C.count) self.new) result }
+        ensures cause { HasCause (faults_in (seat_view C.at C.losses C.count) self.old)
+            (faults_in (seat_view C.at C.losses C.count) self.new) result }
         ensures enough { OnOk result (needed_of (length self.new.seats) self.old.quorum
             ≤ called_of (seat_view C.at C.losses C.count) self.new.seats) }
         ensures few { OnErr result (called_of (seat_view C.at C.losses C.count) self.new.seats

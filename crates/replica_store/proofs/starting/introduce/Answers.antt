@@ -1,5 +1,4 @@
 use Rattle.std.proofs.Common.{rules, ◌≡◌, ◌∙◌, length}
-use Rattle.replica_store.specs.Seats.{seat_view}
 use Rattle.replica_store.proofs.Started.{on_ok}
 use Rattle.replica_store.proofs.Supplying.{all_adds, all_adds_same, introduces_none, introduces_one, one_supplied}
 use Rattle.replica_store.proofs.starting.introduce.Goals as goal

@@ -1,4 +1,4 @@
-use Rattle.std.proofs.Common.{◌≡◌, ◌<◌, ℕ, length}
+use Rattle.std.proofs.Common.{◌<◌, ℕ}
 use Rattle.replica_store.specs.Seats.{seat_view}
 use Rattle.replica_store.specs.Starting.{AllMayAdd, AreSupplied, Introduces, IsListedAt}
 use Rattle.replica_store.proofs.starting.introduce_all.Given as goal
