@@ -1,6 +1,6 @@
-ghost use Rattle.std.specs.Prelude.{◌≡◌, [], true, IfOk};
+ghost use Rattle.std.specs.Prelude.{◌≡◌, ◌≢◌, [], true, IfOk};
 ghost use Rattle.gw_model.specs.declared.object.ObjectId.{ObjectId};
-ghost use Rattle.append_store.specs.State.{IsThere, Missing};
+ghost use Rattle.append_store.specs.State.{IsAway, IsThere, Missing};
 ghost use Rattle.replica_store.specs.Seats.{seat_view, told_in};
 
 use super::*;
@@ -13,6 +13,8 @@ const BODY: ObjectId = ObjectId::Body {
     file: 4,
     version: 1,
 };
+
+const LOG: ObjectId = ObjectId::Log { generation: 1 };
 
 // The call of this number on the body is to fail, and keeps 2 bytes if it is an append. Calls 1 and
 // 2 are the create and the taking.
@@ -90,6 +92,69 @@ fn over_two<C: Cluster>(alloc: Global, a: C, b: C) -> Result<Replica<C>, Fail>
     seats.push(Seat::new(a)).map_err(|_| "first")?;
     seats.push(Seat::new(b)).map_err(|_| "second")?;
     Ok(Replica::new(alloc, seats, 2))
+}
+
+// Makes an object in a store where none is out, with these bytes. None is out then.
+fn stores<C: Cluster>(cluster: &mut C, object: ObjectId, bytes: &[u8]) -> bool
+    requires missing { C.File.tells → C.at cluster.old object ≡ Missing }
+    requires inside { C.File.tells → (q : ObjectId) → IsAway (C.at cluster.old q) → ⊥ }
+    ensures inside { C.File.tells → (q : ObjectId) → IsAway (C.at cluster.new q) → ⊥ }
+    ensures others { C.File.tells → (q : ObjectId) → q ≢ object → C.at cluster.new q ≡ C.at cluster.old q }
+{
+    if cluster.create(object).is_err() {
+        return false;
+    }
+    let Ok(mut file) = cluster.take_file(object) else {
+        return false;
+    };
+    let written = file.append(bytes).is_ok();
+    cluster.give_file(object, file);
+    written
+}
+
+// A store over three of which none has an object out; two of them make a quorum.
+fn started<C: Cluster>(alloc: Global, a: C, b: C, c: C) -> Result<Replica<C>, Fail>
+    requires a { C.File.tells → (q : ObjectId) → IsAway (C.at a q) → ⊥ }
+    requires b { C.File.tells → (q : ObjectId) → IsAway (C.at b q) → ⊥ }
+    requires c { C.File.tells → (q : ObjectId) → IsAway (C.at c q) → ⊥ }
+{
+    let mut seats = Vec::new(alloc);
+    seats.push(Seat::new(a)).map_err(|_| "first")?;
+    seats.push(Seat::new(b)).map_err(|_| "second")?;
+    seats.push(Seat::new(c)).map_err(|_| "third")?;
+    let store = Replica::start(alloc, seats, 2).map_err(|_| "started")?;
+    Ok(store)
+}
+
+// Whether a member has these bytes of the body and of the log.
+fn has_both(seat: Option<Seat<MemCluster>>) -> bool {
+    match seat {
+        Some(seat) => {
+            let member = seat.into_cluster();
+            member.content_of(BODY) == Some(b"abcde".as_slice())
+                && member.content_of(LOG) == Some(b"xy".as_slice())
+        }
+        None => false,
+    }
+}
+
+// The first has the whole body, the second a front of it, and the third nothing of it; the second
+// lacks the log.
+#[test]
+fn members_are_made_equal_at_the_start(rt: HostRuntime) -> Result<(), Fail> {
+    let alloc = rt.alloc();
+    let mut first = MemCluster::new(alloc, Vec::new(alloc));
+    let mut second = MemCluster::new(alloc, Vec::new(alloc));
+    let mut third = MemCluster::new(alloc, Vec::new(alloc));
+    assert!(rt; stores(&mut first, BODY, b"abcde") && stores(&mut first, LOG, b"x"));
+    assert!(rt; stores(&mut second, BODY, b"ab"));
+    assert!(rt; stores(&mut third, LOG, b"xy"));
+    let store = started(alloc, first, second, third)?;
+    let mut seats = store.into_seats().into_iter();
+    assert!(rt; has_both(seats.next()));
+    assert!(rt; has_both(seats.next()));
+    assert!(rt; has_both(seats.next()));
+    Ok(())
 }
 
 #[test]
