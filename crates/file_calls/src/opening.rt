@@ -9,7 +9,7 @@ use append_store::{AppendFile, Cluster};
 use file_cell::FileCell;
 use gw_model::{FileId, Limits, ObjectId, Outcome, Trace};
 use job_line::open_line;
-use range_map::SortedVecMap;
+use range_map::TreeMap;
 use std::alloc::Global;
 
 /// The slots of a file's line, which its limits may leave unused.
@@ -35,7 +35,7 @@ pub fn open_file<C: Cluster>(
     limits: Limits,
     cluster: &mut C,
     trace: &mut Trace,
-) -> Result<FileCell<C::File, SortedVecMap>, Failure>
+) -> Result<FileCell<C::File, TreeMap>, Failure>
     requires there { C.File.tells → IsThere (C.at cluster.old (body_id file)) }
     requires noted { 0 < trace.old.room }
     requires slots { limits.line_slots ≤ 8 }

@@ -23,7 +23,7 @@ use file_cell::{Closed, FileCell, Why};
 use gw_model::status::{NFS3_OK, NFS3ERR_IO};
 use gw_model::{ObjectId, Outcome, Stable, Trace};
 use gw_outside::{Sink, WriteFault};
-use range_map::{PendingMap, SortedVecMap};
+use range_map::{PendingMap, TreeMap};
 use std::alloc::{AllocError, Global};
 use tickets::{Answer, Body, ReplyDesk, Ticket};
 
@@ -239,7 +239,7 @@ pub fn refuse_write(
 #[derive(Drop)]
 pub struct FirstWrite<F: AppendFile> {
     /// The file's context, unless it wasn't opened, or was closed again.
-    pub cell: Option<FileCell<F, SortedVecMap>>,
+    pub cell: Option<FileCell<F, TreeMap>>,
     /// What the WRITE writes.
     pub text: Result<String, AllocError>,
 }
@@ -431,7 +431,7 @@ pub fn create_body<C: Cluster>(
 /// failed.
 pub fn close_cell<C: Cluster, K: Sink>(
     file: u64,
-    cell: FileCell<C::File, SortedVecMap>,
+    cell: FileCell<C::File, TreeMap>,
     written: Result<(), WriteFault>,
     sink: &mut K,
     cluster: &mut C,

@@ -12,7 +12,7 @@ use file_cell::FileCell;
 use gw_config::Config;
 use gw_model::ObjectId;
 use gw_outside::MemSink;
-use range_map::SortedVecMap;
+use range_map::TreeMap;
 use std::alloc::Global;
 use std::test::Fail;
 
@@ -56,7 +56,7 @@ fn opened<C: Cluster>(
     tracker: &mut RequestTracker,
     cluster: &mut C,
     bytes: &'static [u8],
-) -> Result<FileCell<C::File, SortedVecMap>, Fail>
+) -> Result<FileCell<C::File, TreeMap>, Fail>
     requires few { length bytes.now ≤ 100 }
     requires home { IsBodyHome C.File.tells (C.at cluster.old BODY) None }
     ensures ready { IfOk result (λ c. IsCellReady tracker.new.settings.limits 4 c) }
@@ -80,7 +80,7 @@ fn opened<C: Cluster>(
 }
 
 fn turned<F: AppendFile>(
-    cell: &mut FileCell<F, SortedVecMap>,
+    cell: &mut FileCell<F, TreeMap>,
     tracker: &mut RequestTracker,
 ) -> Result<String, Fail>
     requires ready { IsCellReady tracker.old.settings.limits 4 cell.old }
@@ -94,7 +94,7 @@ fn turned<F: AppendFile>(
 }
 
 fn pumped<F: AppendFile>(
-    cell: &mut FileCell<F, SortedVecMap>,
+    cell: &mut FileCell<F, TreeMap>,
     tracker: &mut RequestTracker,
 ) -> Result<String, Fail>
     requires ready { IsCellReady tracker.old.settings.limits 4 cell.old }
@@ -106,7 +106,7 @@ fn pumped<F: AppendFile>(
 }
 
 fn read<F: AppendFile>(
-    cell: &mut FileCell<F, SortedVecMap>,
+    cell: &mut FileCell<F, TreeMap>,
     tracker: &mut RequestTracker,
 ) -> Result<String, Fail>
     requires ready { IsCellReady tracker.old.settings.limits 4 cell.old }
@@ -125,7 +125,7 @@ fn read<F: AppendFile>(
 
 // What a turn, a READ, a turn and a pump write.
 fn four_texts<F: AppendFile>(
-    cell: &mut FileCell<F, SortedVecMap>,
+    cell: &mut FileCell<F, TreeMap>,
     tracker: &mut RequestTracker,
 ) -> Result<[String; 4], Fail>
     requires ready { IsCellReady tracker.old.settings.limits 4 cell.old }
@@ -142,7 +142,7 @@ fn four_texts<F: AppendFile>(
 // Whether this is the history of the context, which is closed.
 fn ends_with<C: Cluster>(
     alloc: Global,
-    cell: FileCell<C::File, SortedVecMap>,
+    cell: FileCell<C::File, TreeMap>,
     cluster: &mut C,
     text: &str,
 ) -> bool

@@ -289,13 +289,7 @@ impl<F: AppendFile, M: PendingMap> FileCell<F, M> {
         ensures history { (f : File) (why : EndReason) → StandsFor self f → history_of_ended result.ended why ≡ history_of f why }
     {
         let FileCell { admit, writer } = self;
-        let AdmitSide {
-            id,
-            base,
-            admit,
-            limits: _,
-            used: _,
-        } = admit;
+        let AdmitSide { id, base, admit } = admit;
         let WriterSide {
             writer,
             output,

@@ -31,7 +31,7 @@ use file_cell::FileCell;
 use file_requests::{Refused, Request, busy_request, read_request};
 use gw_config::Config;
 use gw_outside::{Sink, WriteFault};
-use range_map::SortedVecMap;
+use range_map::TreeMap;
 use std::alloc::{AllocError, Global};
 use std::collections::BTreeMap;
 use std::collections::btree_map::Entry;
@@ -46,7 +46,7 @@ const FIRST_FILE: u64 = 4;
 pub struct World<C: Cluster> {
     alloc: Global,
     names: BTreeMap<Bytes, u64>,
-    cells: BTreeMap<u64, FileCell<C::File, SortedVecMap>>,
+    cells: BTreeMap<u64, FileCell<C::File, TreeMap>>,
     tracker: RequestTracker,
 }
 
