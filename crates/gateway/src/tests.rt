@@ -1,5 +1,7 @@
 // Connections with their bytes in pieces; records and replies are word by word from RFC 5531 and RFC 1813.
 ghost use Rattle.std.specs.Prelude.{ℕ, ◌≤◌, ◌<◌, ◌+◌, IfOk, OnOk};
+ghost use Rattle.gw_config.specs.Ranges.{AreInRange};
+ghost use Rattle.gw_config.specs.Seen.{settings_in};
 ghost use Rattle.append_store.specs.State.{IsAway};
 ghost use Rattle.file_calls.specs.Outside.{body_id};
 ghost use Rattle.nfs_procs.specs.Contexts.{file_count, AreBodiesPlaced, AreBodiesSafe};
@@ -83,14 +85,23 @@ fn text_of<C: Cluster>(
     }
 }
 
+// The settings where nothing is set.
+fn unset(alloc: Global) -> Result<Config, Fail>
+    ensures in_range { IfOk result (λ c. AreInRange (settings_in c)) }
+{
+    match Config::from_toml(alloc, "") {
+        Ok(config) => Ok(config),
+        Err(_) => Err("settings".into()),
+    }
+}
+
 // A gateway with file 4 in a store that has none of its bodies out.
 fn with_file<C: Cluster>(alloc: Global, cluster: &mut C) -> Result<Gateway<C>, Fail>
     requires safe { C.File.tells → (k : ℕ) → IsAway (C.at cluster.old (body_id k)) → ⊥ }
     ensures placed { IfOk result (λ g. AreBodiesPlaced C.File.tells (file_count g.kept) (C.at cluster.new) g.kept.cells) }
     ensures event { IfOk result (λ g. g.kept.tracker.noted.event ≤ 1) }
 {
-    let config = Config::from_toml(alloc, "").map_err(|_| "settings")?;
-    let mut gateway = Gateway::new(alloc, config);
+    let mut gateway = Gateway::new(alloc, unset(alloc)?);
     text_of(&mut gateway, Event::MakeFile(Piece::new(b"data")), cluster)?;
     Ok(gateway)
 }
