@@ -58,46 +58,33 @@ fn give_back<C: Cluster>(cluster: &mut C, part: Option<Part<C::File>>) {
     }
 }
 
-// Makes the body in a store that has nothing, with "abcde" in it, durable.
-fn stores_five<C: Cluster>(cluster: &mut C) -> bool
-    requires { C.File.tells → C.at cluster.old BODY ≡ Missing }
-    ensures { C.File.tells → result ≡ true → IsThere (C.at cluster.new BODY) }
-{
-    if cluster.create(BODY).is_err() {
-        return false;
-    }
-    let Ok(mut file) = cluster.take_file(BODY) else {
-        return false;
-    };
-    let written = file.append(b"abcde").is_ok() && file.hsync().is_ok();
-    cluster.give_file(BODY, file);
-    written
-}
-
-// Whether each member has the five bytes.
-fn has_five(seat: Option<Seat<MemCluster>>) -> bool {
+// Whether a member has these bytes of the body.
+fn has(seat: Option<Seat<MemCluster>>, bytes: &[u8]) -> bool {
     match seat {
-        Some(seat) => seat.into_cluster().content_of(BODY) == Some(b"abcde".as_slice()),
+        Some(seat) => seat.into_cluster().content_of(BODY) == Some(bytes),
         None => false,
     }
 }
 
-// A store over two that have nothing, both of which make a quorum.
-fn over_two<C: Cluster>(alloc: Global, a: C, b: C) -> Result<Replica<C>, Fail>
+// A store over three that have nothing; two of them make a quorum.
+fn over_empty<C: Cluster>(alloc: Global, a: C, b: C, c: C) -> Result<Replica<C>, Fail>
     requires a { (q : ObjectId) → C.at a q ≡ Missing }
     requires b { (q : ObjectId) → C.at b q ≡ Missing }
+    requires c { (q : ObjectId) → C.at c q ≡ Missing }
     ensures { IfOk result (λ r. (q : ObjectId) → told_in (seat_view C.at C.losses C.count) r q ≡ Missing) }
 {
     let mut seats = Vec::new(alloc);
     seats.push(Seat::new(a)).map_err(|_| "first")?;
     seats.push(Seat::new(b)).map_err(|_| "second")?;
+    seats.push(Seat::new(c)).map_err(|_| "third")?;
     Ok(Replica::new(alloc, seats, 2))
 }
 
-// Makes an object in a store where none is out, with these bytes. None is out then.
+// Makes an object in a store where none is out, with these bytes, durable. None is out then.
 fn stores<C: Cluster>(cluster: &mut C, object: ObjectId, bytes: &[u8]) -> bool
     requires missing { C.File.tells → C.at cluster.old object ≡ Missing }
     requires inside { C.File.tells → (q : ObjectId) → IsAway (C.at cluster.old q) → ⊥ }
+    ensures there { C.File.tells → result ≡ true → IsThere (C.at cluster.new object) }
     ensures inside { C.File.tells → (q : ObjectId) → IsAway (C.at cluster.new q) → ⊥ }
     ensures others { C.File.tells → (q : ObjectId) → q ≢ object → C.at cluster.new q ≡ C.at cluster.old q }
 {
@@ -107,9 +94,37 @@ fn stores<C: Cluster>(cluster: &mut C, object: ObjectId, bytes: &[u8]) -> bool
     let Ok(mut file) = cluster.take_file(object) else {
         return false;
     };
-    let written = file.append(bytes).is_ok();
+    let written = file.append(bytes).is_ok() && file.hsync().is_ok();
     cluster.give_file(object, file);
     written
+}
+
+// Reopens a store after a crash: whether the body has "abcde" then, and nothing else.
+fn reopens_with_five<C: Cluster>(cluster: &mut C) -> bool
+    requires there { C.File.tells → IsThere (C.at cluster.old BODY) }
+    requires inside { C.File.tells → (q : ObjectId) → IsAway (C.at cluster.old q) → ⊥ }
+    ensures there { C.File.tells → result ≡ true → IsThere (C.at cluster.new BODY) }
+    ensures inside { C.File.tells → result ≡ true → (q : ObjectId) → IsAway (C.at cluster.new q) → ⊥ }
+{
+    if cluster.reopen(0).is_err() {
+        return false;
+    }
+    let mut out = [0; 6];
+    cluster.read_closed(BODY, 0, &mut out) == Ok(5) && out.starts_with(b"abcde")
+}
+
+// Takes the body and gives it back: whether its hsync fails. None is out then.
+fn fails_to_sync<C: Cluster>(cluster: &mut C) -> bool
+    requires there { C.File.tells → IsThere (C.at cluster.old BODY) }
+    requires inside { C.File.tells → (q : ObjectId) → IsAway (C.at cluster.old q) → ⊥ }
+    ensures { C.File.tells → (q : ObjectId) → IsAway (C.at cluster.new q) → ⊥ }
+{
+    let Ok(mut file) = cluster.take_file(BODY) else {
+        return false;
+    };
+    let failed = file.hsync() == Err(StoreFault);
+    cluster.give_file(BODY, file);
+    failed
 }
 
 // A store over three of which none has an object out; two of them make a quorum.
@@ -157,19 +172,25 @@ fn members_are_made_equal_at_the_start(rt: HostRuntime) -> Result<(), Fail> {
     Ok(())
 }
 
+// The second keeps a part of its append, and is dropped. Of the third the reopening makes calls 5 and
+// 6, the taking is call 7, and its hsync fails.
 #[test]
-fn each_member_gets_what_is_stored(rt: HostRuntime) -> Result<(), Fail> {
+fn goes_on_with_two_of_three_but_not_with_one(rt: HostRuntime) -> Result<(), Fail> {
     let alloc = rt.alloc();
     let first = MemCluster::new(alloc, Vec::new(alloc));
-    let second = MemCluster::new(alloc, Vec::new(alloc));
-    let mut store = over_two(alloc, first, second)?;
-    assert!(rt; stores_five(&mut store));
-    let mut out = [0; 3];
-    assert_eq!(rt; store.read_closed(BODY, 1, &mut out), Ok(3));
-    assert_eq!(rt; out, *b"bcd");
+    let second = MemCluster::new(alloc, vec![in alloc; fails_at(3)]?);
+    let third = MemCluster::new(alloc, vec![in alloc; fails_at(8)]?);
+    let mut store = over_empty(alloc, first, second, third)?;
+    assert!(rt; stores(&mut store, BODY, b"abcde"));
+    assert_eq!(rt; store.live(), 2);
+    assert!(rt; reopens_with_five(&mut store));
+    assert!(rt; fails_to_sync(&mut store));
+    assert_eq!(rt; store.live(), 1);
+    assert_eq!(rt; store.reopen(0), Err(StoreFault));
     let mut seats = store.into_seats().into_iter();
-    assert!(rt; has_five(seats.next()));
-    assert!(rt; has_five(seats.next()));
+    assert!(rt; has(seats.next(), b"abcde"));
+    assert!(rt; has(seats.next(), b"ab"));
+    assert!(rt; has(seats.next(), b"abcde"));
     Ok(())
 }
 
