@@ -59,7 +59,7 @@ fn give_back<C: Cluster>(cluster: &mut C, part: Option<Part<C::File>>) {
 }
 
 // Whether a member has these bytes of the body.
-fn has(seat: Option<Seat<MemCluster>>, bytes: &[u8]) -> bool {
+fn has_body(seat: Option<Seat<MemCluster>>, bytes: &[u8]) -> bool {
     match seat {
         Some(seat) => seat.into_cluster().content_of(BODY) == Some(bytes),
         None => false,
@@ -172,8 +172,8 @@ fn members_are_made_equal_at_the_start(rt: HostRuntime) -> Result<(), Fail> {
     Ok(())
 }
 
-// The second keeps a part of its append, and is dropped. Of the third the reopening makes calls 5 and
-// 6, the taking is call 7, and its hsync fails.
+// The second keeps a part of its append, and is dropped. Calls 5 and 6 on the third are the taking and
+// the hsync of the reopening, and call 7 is the next taking; the hsync behind it fails.
 #[test]
 fn goes_on_with_two_of_three_but_not_with_one(rt: HostRuntime) -> Result<(), Fail> {
     let alloc = rt.alloc();
@@ -188,9 +188,9 @@ fn goes_on_with_two_of_three_but_not_with_one(rt: HostRuntime) -> Result<(), Fai
     assert_eq!(rt; store.live(), 1);
     assert_eq!(rt; store.reopen(0), Err(StoreFault));
     let mut seats = store.into_seats().into_iter();
-    assert!(rt; has(seats.next(), b"abcde"));
-    assert!(rt; has(seats.next(), b"ab"));
-    assert!(rt; has(seats.next(), b"abcde"));
+    assert!(rt; has_body(seats.next(), b"abcde"));
+    assert!(rt; has_body(seats.next(), b"ab"));
+    assert!(rt; has_body(seats.next(), b"abcde"));
     Ok(())
 }
 
