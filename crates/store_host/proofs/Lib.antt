@@ -1,0 +1,2 @@
+mod Hyphens
+mod ObjectNames

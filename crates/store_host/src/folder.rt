@@ -1,0 +1,217 @@
+// A folder of the operating system, and the files in it.
+ghost use Rattle.std.specs.Prelude.{◌≡◌, ◌++◌, ◌<◌, ◌^◌, OnOk, IfOk, map, string_bytes};
+ghost use Rattle.append_store.specs.Calls.{IsRising};
+ghost use Rattle.store_host.specs.ObjectNames.{object_name};
+
+use crate::names::{object_of, push_name};
+use append_store::{CreateFault, ListFault};
+use gw_model::{END_LIMIT, KeptObject, ObjectId};
+use std::alloc::{AllocError, Global};
+use std::collections::BTreeMap;
+use std::fs::{self, DirEntry, File, OpenOptions, TryLockError};
+use std::io::{self, ErrorKind};
+use std::rt::Files;
+use thiserror::Error;
+
+/// Why a folder can't be used.
+#[derive(Clone, Copy, Debug, PartialEq, Eq, Error)]
+pub enum FolderFault {
+    /// Nothing has that path.
+    #[error("no such folder")]
+    Missing,
+    /// What has that path is no folder.
+    #[error("not a folder")]
+    NotAFolder,
+    /// The system doesn't permit it.
+    #[error("permission denied")]
+    Denied,
+    /// It is held open already, by this process or by another one.
+    #[error("the folder is in use")]
+    InUse,
+    /// Memory was refused.
+    #[error("out of memory")]
+    Memory,
+    /// The system failed in another way.
+    #[error("the system failed")]
+    Failed,
+}
+
+/// What reaches the files of the operating system.
+pub trait Disk: Files<File = File> + AllocGlobal + Clone + Drop {}
+
+impl<R: Files<File = File> + AllocGlobal + Clone + Drop> Disk for R {}
+
+// The most bytes that the name of a file in such a folder has.
+const LONGEST_NAME: usize = 46;
+
+/// A folder that is held open and locked.
+#[derive(Drop)]
+pub(crate) struct Folder<R: Disk> {
+    files: R,
+    handle: File,
+    // ends in a slash
+    folder: String,
+    // the path of the file that a call is about, with room for each name
+    path: String,
+}
+
+pub(crate) fn fault_of(error: io::Error) -> FolderFault {
+    match error.kind() {
+        ErrorKind::NotFound => FolderFault::Missing,
+        ErrorKind::NotADirectory => FolderFault::NotAFolder,
+        ErrorKind::PermissionDenied => FolderFault::Denied,
+        ErrorKind::OutOfMemory => FolderFault::Memory,
+        _ => FolderFault::Failed,
+    }
+}
+
+// A folder's path with a slash behind it, and an empty text with room for the path of a file there.
+fn paths_of(alloc: Global, folder: &str) -> Result<(String, String), AllocError> {
+    let mut text = String::from_str(alloc, folder)?;
+    text.push_str("/")?;
+    let mut path = String::new(alloc);
+    path.reserve(text.len())?;
+    path.reserve(LONGEST_NAME)?;
+    Ok((text, path))
+}
+
+// An object that a name in a folder is of, with its length; None where it is of no object's file.
+fn object_at<R: Disk>(
+    entry: io::Result<DirEntry<R, Global>>,
+) -> io::Result<Option<KeptObject>> {
+    let entry = match entry {
+        Ok(entry) => entry,
+        // a name that is no UTF-8
+        Err(error) if error.kind() == ErrorKind::InvalidFilename => return Ok(None),
+        Err(error) => return Err(error),
+    };
+    let Some(object) = object_of(entry.file_name().as_bytes()) else {
+        return Ok(None);
+    };
+    let metadata = entry.metadata()?;
+    if !metadata.is_file() {
+        return Ok(None);
+    }
+    let length = metadata.len();
+    Ok(Some(KeptObject { object, length }))
+}
+
+// The objects of a map by rising names.
+fn listing(
+    alloc: Global,
+    lengths: &BTreeMap<ObjectId, u64>,
+) -> Result<Vec<KeptObject>, AllocError>
+    ensures { IfOk result (λ all. IsRising all.items) }
+{
+    let mut all = Vec::new(alloc);
+    for (object, length) in lengths {
+        all.push(KeptObject {
+            object: *object,
+            length: *length,
+        })?;
+    }
+    Ok(all)
+}
+
+impl<R: Disk> Folder<R> {
+    // Opens and locks a folder that is there.
+    pub(crate) fn open(files: R, folder: &str) -> Result<Folder<R>, FolderFault> {
+        if !fs::metadata(&files, folder).map_err(fault_of)?.is_dir() {
+            return Err(FolderFault::NotAFolder);
+        }
+        let handle = File::open(&files, folder).map_err(fault_of)?;
+        match handle.try_lock() {
+            Ok(()) => {}
+            Err(TryLockError::WouldBlock) => return Err(FolderFault::InUse),
+            Err(TryLockError::Error(error)) => return Err(fault_of(error)),
+        }
+        let (folder, path) =
+            paths_of(files.alloc(), folder).map_err(|_| FolderFault::Memory)?;
+        Ok(Folder {
+            files,
+            handle,
+            folder,
+            path,
+        })
+    }
+
+    // Makes the path that of an object's file.
+    fn aim(&mut self, object: ObjectId) -> Result<(), AllocError>
+        ensures { OnOk result (string_bytes self.new.path ≡ string_bytes self.old.folder ++ object_name object) }
+    {
+        self.path.clear();
+        self.path.push_str(self.folder.as_str())?;
+        push_name(object, &mut self.path)
+    }
+
+    // Makes the file at the path where there is none, and makes it durable.
+    fn make(&self) -> io::Result<()> {
+        let file = OpenOptions::new()
+            .write(true)
+            .create(true)
+            .open(&self.files, self.path.as_str())?;
+        file.sync_all()?;
+        self.handle.sync_all()
+    }
+
+    pub(crate) fn create(&mut self, object: ObjectId) -> Result<(), CreateFault> {
+        self.aim(object).map_err(|_| CreateFault::Memory)?;
+        self.make().map_err(|_| CreateFault::Fault)
+    }
+
+    // The file of an object, with its length.
+    pub(crate) fn open_object(&mut self, object: ObjectId) -> io::Result<(File, u64)>
+        ensures { IfOk result (λ r. r.1 < 2 ^ 63) }
+    {
+        self.aim(object)?;
+        let file = OpenOptions::new()
+            .read(true)
+            .write(true)
+            .open(&self.files, self.path.as_str())?;
+        let length = file.metadata()?.len();
+        if length >= END_LIMIT {
+            return Err(ErrorKind::FileTooLarge.into());
+        }
+        Ok((file, length))
+    }
+
+    // Takes the file of an object away for good.
+    pub(crate) fn remove(&mut self, object: ObjectId) -> io::Result<()> {
+        self.aim(object)?;
+        fs::remove_file(&self.files, self.path.as_str())?;
+        self.handle.sync_all()
+    }
+
+    // The objects that are there, with their lengths.
+    fn lengths(&self) -> io::Result<BTreeMap<ObjectId, u64>> {
+        let mut lengths = BTreeMap::new(self.files.alloc());
+        for entry in fs::read_dir(&self.files, self.folder.as_str())? {
+            if let Some(kept) = object_at(entry)? {
+                lengths.insert(kept.object, kept.length)?;
+            }
+        }
+        Ok(lengths)
+    }
+
+    pub(crate) fn list(&self) -> Result<Vec<KeptObject>, ListFault>
+        ensures { IfOk result (λ all. IsRising all.items) }
+    {
+        match self.lengths() {
+            Ok(lengths) => {
+                listing(self.files.alloc(), &lengths).map_err(|_| ListFault::Memory)
+            }
+            Err(error) if error.kind() == ErrorKind::OutOfMemory => Err(ListFault::Memory),
+            Err(_) => Err(ListFault::Fault),
+        }
+    }
+
+    // Makes durable what is there.
+    pub(crate) fn sync(&mut self) -> io::Result<()> {
+        let lengths = self.lengths()?;
+        for (object, _) in &lengths {
+            let (file, _) = self.open_object(*object)?;
+            file.sync_all()?;
+        }
+        self.handle.sync_all()
+    }
+}
