@@ -1,2 +1,3 @@
 mod Hyphens
+mod Listing
 mod ObjectNames

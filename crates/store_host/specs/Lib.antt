@@ -1,1 +1,2 @@
 pub mod ObjectNames
+pub mod Listing

@@ -1,6 +1,8 @@
 // A folder of the operating system, and the files in it.
-ghost use Rattle.std.specs.Prelude.{◌≡◌, ◌++◌, ◌<◌, ◌^◌, OnOk, IfOk, map, string_bytes};
-ghost use Rattle.append_store.specs.Calls.{IsRising};
+ghost use Rattle.std.specs.Prelude.{◌≡◌, ◌++◌, ◌<◌, ◌^◌, OnOk, IfOk, string_bytes};
+ghost use Rattle.std.specs.BTreeMap.{IsOrdered};
+ghost use Rattle.append_store.specs.Calls.{IsRising, object_cmp};
+ghost use Rattle.store_host.specs.Listing.{kept_objects};
 ghost use Rattle.store_host.specs.ObjectNames.{object_name};
 
 use crate::names::{object_of, push_name};
@@ -96,13 +98,16 @@ fn object_at<R: Disk>(
     Ok(Some(KeptObject { object, length }))
 }
 
-// The objects of a map by rising names.
+// The objects of a map.
 fn listing(
     alloc: Global,
     lengths: &BTreeMap<ObjectId, u64>,
 ) -> Result<Vec<KeptObject>, AllocError>
-    ensures { IfOk result (λ all. IsRising all.items) }
+    ensures items { IfOk result (λ all. all.items ≡ kept_objects lengths.now.entries) }
+    ensures ordered { IsOrdered object_cmp lengths.now }
 {
+    // A call on the map tells that its entries are in order, which the clause passes on.
+    let _ = lengths.len();
     let mut all = Vec::new(alloc);
     for (object, length) in lengths {
         all.push(KeptObject {
@@ -110,6 +115,17 @@ fn listing(
             length: *length,
         })?;
     }
+    Ok(all)
+}
+
+// The objects of a map by rising names.
+fn rising_listing(
+    alloc: Global,
+    lengths: &BTreeMap<ObjectId, u64>,
+) -> Result<Vec<KeptObject>, AllocError>
+    ensures { IfOk result (λ all. IsRising all.items) }
+{
+    let all = listing(alloc, lengths)?;
     Ok(all)
 }
 
@@ -198,7 +214,7 @@ impl<R: Disk> Folder<R> {
     {
         match self.lengths() {
             Ok(lengths) => {
-                listing(self.files.alloc(), &lengths).map_err(|_| ListFault::Memory)
+                rising_listing(self.files.alloc(), &lengths).map_err(|_| ListFault::Memory)
             }
             Err(error) if error.kind() == ErrorKind::OutOfMemory => Err(ListFault::Memory),
             Err(_) => Err(ListFault::Fault),

@@ -1,5 +1,5 @@
 // A file of the operating system that only grows.
-ghost use Rattle.std.specs.Prelude.{◌≡◌, ◌+◌, ◌-◌, ◌<◌, ◌≤◌, ◌^◌, [], ◌∷◌, ⊥, false, length, min, replicate, is_err, IfErr, IfOk, OnOk, OnErr};
+ghost use Rattle.std.specs.Prelude.{◌≡◌, ◌+◌, ◌-◌, ◌<◌, ◌≤◌, ◌^◌, [], ◌∷◌, false, length, min, replicate, is_err, IfErr, IfOk, OnOk, OnErr};
 ghost use Rattle.gw_outside.specs.Causes.{HasCause};
 ghost use Rattle.gw_outside.specs.Tally.{no_calls, one_call};
 ghost use Rattle.append_store.specs.Calls.{added_count};

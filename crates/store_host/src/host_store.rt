@@ -1,5 +1,5 @@
 // The store over a folder of files of the operating system.
-ghost use Rattle.std.specs.Prelude.{◌≡◌, ◌≤◌, ◌||◌, ◌^◌, ◌<◌, ⊥, false, length, is_err, IfOk, OnOk, OnErr, IsErrOf, Ok};
+ghost use Rattle.std.specs.Prelude.{◌≡◌, ◌≤◌, ◌||◌, ◌^◌, ◌<◌, false, length, is_err, IfOk, OnOk, OnErr, IsErrOf, Ok};
 ghost use Rattle.gw_model.specs.declared.object.ObjectId.{ObjectId};
 ghost use Rattle.gw_outside.specs.Causes.{Carries, HasCause, Rose};
 ghost use Rattle.gw_outside.specs.Tally.{joined_tally, no_calls, one_call};
