@@ -1,2 +1,3 @@
 pub mod ObjectNames
 pub mod Listing
+pub mod Faults

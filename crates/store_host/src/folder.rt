@@ -1,11 +1,13 @@
 // A folder of the operating system, and the files in it.
-ghost use Rattle.std.specs.Prelude.{◌≡◌, ◌++◌, ◌<◌, ◌^◌, OnOk, IfOk, string_bytes};
+ghost use Rattle.std.specs.Prelude.{◌≡◌, ◌++◌, ◌∷◌, [], ◌<◌, ◌^◌, OnOk, IfOk, string_bytes};
 ghost use Rattle.std.specs.BTreeMap.{IsOrdered};
 ghost use Rattle.append_store.specs.Calls.{IsRising, object_cmp};
+ghost use Rattle.std.specs.IoError.{error_kind};
+ghost use Rattle.store_host.specs.Faults.{folder_fault};
 ghost use Rattle.store_host.specs.Listing.{kept_objects};
 ghost use Rattle.store_host.specs.ObjectNames.{object_name};
 
-use crate::names::{object_of, push_name};
+use crate::names::{object_of, push_name, push_number};
 use append_store::{CreateFault, ListFault};
 use gw_model::{END_LIMIT, KeptObject, ObjectId};
 use std::alloc::{AllocError, Global};
@@ -57,7 +59,10 @@ pub(crate) struct Folder<R: Disk> {
     path: String,
 }
 
-pub(crate) fn fault_of(error: io::Error) -> FolderFault {
+// What an error of the system means for a folder.
+pub(crate) fn fault_of(error: io::Error) -> FolderFault
+    ensures { result ≡ folder_fault (error_kind error) }
+{
     match error.kind() {
         ErrorKind::NotFound => FolderFault::Missing,
         ErrorKind::NotADirectory => FolderFault::NotAFolder,
@@ -67,20 +72,19 @@ pub(crate) fn fault_of(error: io::Error) -> FolderFault {
     }
 }
 
-// A folder's path with a slash behind it, and an empty text with room for the path of a file there.
-fn paths_of(alloc: Global, folder: &str) -> Result<(String, String), AllocError> {
+// A folder's path with a slash behind it, and a text that has room for the path of a file there.
+fn paths_of(alloc: Global, folder: &str) -> Result<(String, String), AllocError>
+    ensures { IfOk result (λ r. string_bytes r.0 ≡ folder.now ++ 47 ∷ []) }
+{
     let mut text = String::from_str(alloc, folder)?;
     text.push_str("/")?;
-    let mut path = String::new(alloc);
-    path.reserve(text.len())?;
+    let mut path = String::from_str(alloc, text.as_str())?;
     path.reserve(LONGEST_NAME)?;
     Ok((text, path))
 }
 
 // An object that a name in a folder is of, with its length; None where it is of no object's file.
-fn object_at<R: Disk>(
-    entry: io::Result<DirEntry<R, Global>>,
-) -> io::Result<Option<KeptObject>> {
+fn object_at<R: Disk>(entry: io::Result<DirEntry<R, Global>>) -> io::Result<Option<KeptObject>> {
     let entry = match entry {
         Ok(entry) => entry,
         // a name that is no UTF-8
@@ -99,10 +103,7 @@ fn object_at<R: Disk>(
 }
 
 // The objects of a map.
-fn listing(
-    alloc: Global,
-    lengths: &BTreeMap<ObjectId, u64>,
-) -> Result<Vec<KeptObject>, AllocError>
+fn listing(alloc: Global, lengths: &BTreeMap<ObjectId, u64>) -> Result<Vec<KeptObject>, AllocError>
     ensures items { IfOk result (λ all. all.items ≡ kept_objects lengths.now.entries) }
     ensures ordered { IsOrdered object_cmp lengths.now }
 {
@@ -131,7 +132,9 @@ fn rising_listing(
 
 impl<R: Disk> Folder<R> {
     // Opens and locks a folder that is there.
-    pub(crate) fn open(files: R, folder: &str) -> Result<Folder<R>, FolderFault> {
+    pub(crate) fn open(files: R, folder: &str) -> Result<Folder<R>, FolderFault>
+        ensures { IfOk result (λ f. string_bytes f.folder ≡ folder.now ++ 47 ∷ []) }
+    {
         if !fs::metadata(&files, folder).map_err(fault_of)?.is_dir() {
             return Err(FolderFault::NotAFolder);
         }
@@ -141,8 +144,7 @@ impl<R: Disk> Folder<R> {
             Err(TryLockError::WouldBlock) => return Err(FolderFault::InUse),
             Err(TryLockError::Error(error)) => return Err(fault_of(error)),
         }
-        let (folder, path) =
-            paths_of(files.alloc(), folder).map_err(|_| FolderFault::Memory)?;
+        let (folder, path) = paths_of(files.alloc(), folder).map_err(|_| FolderFault::Memory)?;
         Ok(Folder {
             files,
             handle,
@@ -151,7 +153,7 @@ impl<R: Disk> Folder<R> {
         })
     }
 
-    // Makes the path that of an object's file.
+    // Makes the path that of an object's file. Takes no memory, since there is room.
     fn aim(&mut self, object: ObjectId) -> Result<(), AllocError>
         ensures { OnOk result (string_bytes self.new.path ≡ string_bytes self.old.folder ++ object_name object) }
     {
@@ -173,6 +175,22 @@ impl<R: Disk> Folder<R> {
     pub(crate) fn create(&mut self, object: ObjectId) -> Result<(), CreateFault> {
         self.aim(object).map_err(|_| CreateFault::Memory)?;
         self.make().map_err(|_| CreateFault::Fault)
+    }
+
+    // A new file for the bytes of a device, which loses its name at once.
+    pub(crate) fn open_spill(&mut self, number: u64) -> io::Result<File> {
+        self.path.clear();
+        self.path.push_str(self.folder.as_str())?;
+        self.path.push_str("spill-")?;
+        push_number(&mut self.path, number)?;
+        let file = OpenOptions::new()
+            .read(true)
+            .write(true)
+            .create(true)
+            .truncate(true)
+            .open(&self.files, self.path.as_str())?;
+        fs::remove_file(&self.files, self.path.as_str())?;
+        Ok(file)
     }
 
     // The file of an object, with its length.

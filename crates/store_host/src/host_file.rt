@@ -63,6 +63,7 @@ impl HostFile {
     pub(crate) fn taken(object: ObjectId, file: File, end: u64, stuck: bool) -> HostFile
         requires { end < 2 ^ 63 }
         ensures no_calls { result.tally ≡ no_calls }
+        ensures object { result.object ≡ object }
         ensures stuck { result.stuck ≡ stuck }
         ensures end { result.end ≡ end }
     {

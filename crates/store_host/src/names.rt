@@ -9,7 +9,7 @@ use itoa::Buffer;
 use std::alloc::AllocError;
 use transcript::parse_u64;
 
-fn push_number(text: &mut String, n: u64) -> Result<(), AllocError>
+pub(crate) fn push_number(text: &mut String, n: u64) -> Result<(), AllocError>
     ensures { OnOk result (string_bytes text.new ≡ string_bytes text.old ++ decimal n) }
 {
     let mut digits = Buffer::new();
