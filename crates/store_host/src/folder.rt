@@ -1,5 +1,5 @@
 // A folder of the operating system, and the files in it.
-ghost use Rattle.std.specs.Prelude.{◌≡◌, ◌++◌, ◌∷◌, [], ◌<◌, ◌^◌, OnOk, IfOk, string_bytes};
+ghost use Rattle.std.specs.Prelude.{◌≡◌, ◌++◌, ◌∷◌, [], ◌<◌, ◌^◌, ◌||◌, true, false, is_err, OnOk, IfOk, string_bytes};
 ghost use Rattle.std.specs.BTreeMap.{IsOrdered};
 ghost use Rattle.append_store.specs.Calls.{IsRising, object_cmp};
 ghost use Rattle.std.specs.IoError.{error_kind};
@@ -57,6 +57,8 @@ pub(crate) struct Folder<R: Disk> {
     folder: String,
     // the path of the file that a call is about, with room for each name
     path: String,
+    // a sync failed
+    stuck: bool,
 }
 
 // What an error of the system means for a folder.
@@ -70,6 +72,19 @@ pub(crate) fn fault_of(error: io::Error) -> FolderFault
         ErrorKind::OutOfMemory => FolderFault::Memory,
         _ => FolderFault::Failed,
     }
+}
+
+// Makes a file or a folder durable. After a failure each later call fails, and makes no call of the
+// system, which may count as written what was lost.
+pub(crate) fn settle(stuck: &mut bool, file: &File) -> io::Result<()>
+    ensures stuck { stuck.new ≡ is_err result }
+    ensures again { OnOk result (stuck.old ≡ false) }
+{
+    *stuck = *stuck || file.sync_all().is_err();
+    if *stuck {
+        return Err(ErrorKind::Other.into());
+    }
+    Ok(())
 }
 
 // A folder's path with a slash behind it, and a text that has room for the path of a file there.
@@ -133,7 +148,8 @@ fn rising_listing(
 impl<R: Disk> Folder<R> {
     // Opens and locks a folder that is there.
     pub(crate) fn open(files: R, folder: &str) -> Result<Folder<R>, FolderFault>
-        ensures { IfOk result (λ f. string_bytes f.folder ≡ folder.now ++ 47 ∷ []) }
+        ensures path { IfOk result (λ f. string_bytes f.folder ≡ folder.now ++ 47 ∷ []) }
+        ensures synced { IfOk result (λ f. f.stuck ≡ false) }
     {
         if !fs::metadata(&files, folder).map_err(fault_of)?.is_dir() {
             return Err(FolderFault::NotAFolder);
@@ -150,12 +166,28 @@ impl<R: Disk> Folder<R> {
             handle,
             folder,
             path,
+            stuck: false,
         })
+    }
+
+    // Whether a sync failed.
+    pub(crate) fn stuck(&self) -> bool
+        ensures { result ≡ self.now.stuck }
+    {
+        self.stuck
+    }
+
+    // Takes over whether a sync of a file failed.
+    pub(crate) fn stick(&mut self, stuck: bool)
+        ensures { self.new.stuck ≡ (self.old.stuck || stuck) }
+    {
+        self.stuck = self.stuck || stuck;
     }
 
     // Makes the path that of an object's file. Takes no memory, since there is room.
     fn aim(&mut self, object: ObjectId) -> Result<(), AllocError>
-        ensures { OnOk result (string_bytes self.new.path ≡ string_bytes self.old.folder ++ object_name object) }
+        ensures path { OnOk result (string_bytes self.new.path ≡ string_bytes self.old.folder ++ object_name object) }
+        ensures same { self.new.stuck ≡ self.old.stuck }
     {
         self.path.clear();
         self.path.push_str(self.folder.as_str())?;
@@ -163,16 +195,22 @@ impl<R: Disk> Folder<R> {
     }
 
     // Makes the file at the path where there is none, and makes it durable.
-    fn make(&self) -> io::Result<()> {
+    fn make(&mut self) -> io::Result<()>
+        ensures again { OnOk result (self.old.stuck ≡ false) }
+        ensures lasts { self.old.stuck ≡ true → self.new.stuck ≡ true }
+    {
         let file = OpenOptions::new()
             .write(true)
             .create(true)
             .open(&self.files, self.path.as_str())?;
-        file.sync_all()?;
-        self.handle.sync_all()
+        settle(&mut self.stuck, &file)?;
+        settle(&mut self.stuck, &self.handle)
     }
 
-    pub(crate) fn create(&mut self, object: ObjectId) -> Result<(), CreateFault> {
+    pub(crate) fn create(&mut self, object: ObjectId) -> Result<(), CreateFault>
+        ensures again { OnOk result (self.old.stuck ≡ false) }
+        ensures lasts { self.old.stuck ≡ true → self.new.stuck ≡ true }
+    {
         self.aim(object).map_err(|_| CreateFault::Memory)?;
         self.make().map_err(|_| CreateFault::Fault)
     }
@@ -195,7 +233,8 @@ impl<R: Disk> Folder<R> {
 
     // The file of an object, with its length.
     pub(crate) fn open_object(&mut self, object: ObjectId) -> io::Result<(File, u64)>
-        ensures { IfOk result (λ r. r.1 < 2 ^ 63) }
+        ensures low { IfOk result (λ r. r.1 < 2 ^ 63) }
+        ensures same { self.new.stuck ≡ self.old.stuck }
     {
         self.aim(object)?;
         let file = OpenOptions::new()
@@ -210,10 +249,13 @@ impl<R: Disk> Folder<R> {
     }
 
     // Takes the file of an object away for good.
-    pub(crate) fn remove(&mut self, object: ObjectId) -> io::Result<()> {
+    pub(crate) fn remove(&mut self, object: ObjectId) -> io::Result<()>
+        ensures again { OnOk result (self.old.stuck ≡ false) }
+        ensures lasts { self.old.stuck ≡ true → self.new.stuck ≡ true }
+    {
         self.aim(object)?;
         fs::remove_file(&self.files, self.path.as_str())?;
-        self.handle.sync_all()
+        settle(&mut self.stuck, &self.handle)
     }
 
     // The objects that are there, with their lengths.
@@ -240,12 +282,19 @@ impl<R: Disk> Folder<R> {
     }
 
     // Makes durable what is there.
-    pub(crate) fn sync(&mut self) -> io::Result<()> {
+    pub(crate) fn sync(&mut self) -> io::Result<()>
+        ensures again { OnOk result (self.old.stuck ≡ false) }
+        ensures done { OnOk result (self.new.stuck ≡ false) }
+        ensures lasts { self.old.stuck ≡ true → self.new.stuck ≡ true }
+    {
+        if self.stuck {
+            return Err(ErrorKind::Other.into());
+        }
         let lengths = self.lengths()?;
         for (object, _) in &lengths {
             let (file, _) = self.open_object(*object)?;
-            file.sync_all()?;
+            settle(&mut self.stuck, &file)?;
         }
-        self.handle.sync_all()
+        settle(&mut self.stuck, &self.handle)
     }
 }

@@ -4,6 +4,7 @@ ghost use Rattle.gw_outside.specs.Causes.{HasCause};
 ghost use Rattle.gw_outside.specs.Tally.{no_calls, one_call};
 ghost use Rattle.append_store.specs.Calls.{added_count};
 
+use crate::folder::settle;
 use append_store::{AppendFault, AppendFile, StoreFault};
 use gw_model::{END_LIMIT, ObjectId};
 use gw_outside::Tally;
@@ -130,12 +131,9 @@ impl AppendFile for HostFile {
         ensures counted { self.new.tally ≡ one_call (is_err result) self.old.tally }
         ensures cause { HasCause self.old.tally.failed self.new.tally.failed result }
     {
-        self.stuck = self.stuck || self.file.sync_all().is_err();
-        self.tally.count(self.stuck);
-        if self.stuck {
-            return Err(StoreFault);
-        }
-        Ok(())
+        let answer = settle(&mut self.stuck, &self.file);
+        self.tally.count(answer.is_err());
+        answer.map_err(|_| StoreFault)
     }
 
     fn read_at(&mut self, offset: u64, out: &mut [u8]) -> Result<usize, StoreFault>

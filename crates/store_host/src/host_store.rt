@@ -1,5 +1,5 @@
 // The store over a folder of files of the operating system.
-ghost use Rattle.std.specs.Prelude.{◌≡◌, ◌≤◌, ◌||◌, ◌^◌, ◌<◌, false, length, is_err, IfOk, OnOk, OnErr, IsErrOf, Ok};
+ghost use Rattle.std.specs.Prelude.{◌≡◌, ◌≤◌, ◌||◌, ◌^◌, ◌<◌, true, false, length, is_err, IfOk, OnOk, OnErr, IsErrOf, Ok};
 ghost use Rattle.gw_model.specs.declared.object.ObjectId.{ObjectId};
 ghost use Rattle.gw_outside.specs.Causes.{Carries, HasCause, Rose};
 ghost use Rattle.gw_outside.specs.Tally.{joined_tally, no_calls, one_call};
@@ -18,7 +18,6 @@ use std::io;
 #[derive(Drop)]
 pub struct HostStore<R: Disk> {
     folder: Folder<R>,
-    stuck: bool,
     tally: Tally,
 }
 
@@ -36,13 +35,12 @@ impl<R: Disk> HostStore<R> {
     /// counted. Takes memory.
     pub fn open(files: R, folder: &str) -> Result<HostStore<R>, FolderFault>
         ensures no_calls { IfOk result (λ store. store.tally ≡ no_calls) }
-        ensures synced { IfOk result (λ store. store.stuck ≡ false) }
+        ensures synced { IfOk result (λ store. store.folder.stuck ≡ false) }
     {
         let mut folder = Folder::open(files, folder)?;
         folder.sync().map_err(fault_of)?;
         Ok(HostStore {
             folder,
-            stuck: false,
             tally: Tally::new(),
         })
     }
@@ -66,7 +64,7 @@ impl<R: Disk> Cluster for HostStore<R> {
         ensures later { self.old.tally.failed ≤ self.new.tally.failed }
         ensures counted { self.new.tally ≡ listing_tally result self.old.tally }
         ensures cause { IsErrOf result ListFault.Fault → Rose self.old.tally.failed self.new.tally.failed }
-        ensures synced { self.new.stuck ≡ self.old.stuck }
+        ensures synced { self.new.folder.stuck ≡ self.old.folder.stuck }
     {
         let answer = self.folder.list();
         match answer {
@@ -81,7 +79,8 @@ impl<R: Disk> Cluster for HostStore<R> {
         ensures later { self.old.tally.failed ≤ self.new.tally.failed }
         ensures counted { self.new.tally ≡ creation_tally result self.old.tally }
         ensures cause { IsErrOf result CreateFault.Fault → Rose self.old.tally.failed self.new.tally.failed }
-        ensures synced { self.new.stuck ≡ self.old.stuck }
+        ensures again { OnOk result (self.old.folder.stuck ≡ false) }
+        ensures lasts { self.old.folder.stuck ≡ true → self.new.folder.stuck ≡ true }
     {
         let answer = self.folder.create(object);
         match answer {
@@ -98,21 +97,21 @@ impl<R: Disk> Cluster for HostStore<R> {
         ensures object { IfOk result (λ file. file.object ≡ object) }
         ensures counted { self.new.tally ≡ one_call (is_err result) self.old.tally }
         ensures cause { HasCause self.old.tally.failed self.new.tally.failed result }
-        ensures synced { self.new.stuck ≡ self.old.stuck }
-        ensures stuck { IfOk result (λ file. file.stuck ≡ self.old.stuck) }
+        ensures synced { self.new.folder.stuck ≡ self.old.folder.stuck }
+        ensures stuck { IfOk result (λ file. file.stuck ≡ self.old.folder.stuck) }
     {
         let answer = self.folder.open_object(object);
         let (file, end) = counted(&mut self.tally, answer)?;
-        Ok(HostFile::taken(object, file, end, self.stuck))
+        Ok(HostFile::taken(object, file, end, self.folder.stuck()))
     }
 
     /// Closes the file. Where a sync of it failed, the files that are taken later have the failure too.
     fn give_file(&mut self, object: ObjectId, file: HostFile)
         ensures counted { self.new.tally ≡ joined_tally self.old.tally file.tally }
         ensures count { Carries self.old.tally.failed file.tally.failed self.new.tally.failed }
-        ensures stuck { self.new.stuck ≡ (self.old.stuck || file.stuck) }
+        ensures stuck { self.new.folder.stuck ≡ (self.old.folder.stuck || file.stuck) }
     {
-        self.stuck = self.stuck || file.stuck();
+        self.folder.stick(file.stuck());
         self.tally.join(file.tally());
     }
 
@@ -125,7 +124,7 @@ impl<R: Disk> Cluster for HostStore<R> {
         ensures bound { IfOk result (λ n. n ≤ length out.old) }
         ensures counted { self.new.tally ≡ one_call (is_err result) self.old.tally }
         ensures cause { HasCause self.old.tally.failed self.new.tally.failed result }
-        ensures synced { self.new.stuck ≡ self.old.stuck }
+        ensures synced { self.new.folder.stuck ≡ self.old.folder.stuck }
     {
         let answer = match self.folder.open_object(object) {
             Ok((file, end)) => read_part(&file, end, offset, out),
@@ -137,7 +136,8 @@ impl<R: Disk> Cluster for HostStore<R> {
     fn delete(&mut self, object: ObjectId) -> Result<(), StoreFault>
         ensures counted { self.new.tally ≡ one_call (is_err result) self.old.tally }
         ensures cause { HasCause self.old.tally.failed self.new.tally.failed result }
-        ensures synced { self.new.stuck ≡ self.old.stuck }
+        ensures again { OnOk result (self.old.folder.stuck ≡ false) }
+        ensures lasts { self.old.folder.stuck ≡ true → self.new.folder.stuck ≡ true }
     {
         let answer = self.folder.remove(object);
         counted(&mut self.tally, answer)
@@ -148,14 +148,11 @@ impl<R: Disk> Cluster for HostStore<R> {
     fn reopen(&mut self, pick: u64) -> Result<(), StoreFault>
         ensures counted { self.new.tally ≡ one_call (is_err result) self.old.tally }
         ensures cause { HasCause self.old.tally.failed self.new.tally.failed result }
-        ensures again { OnOk result (self.old.stuck ≡ false) }
+        ensures again { OnOk result (self.old.folder.stuck ≡ false) }
+        ensures lasts { self.old.folder.stuck ≡ true → self.new.folder.stuck ≡ true }
     {
-        self.stuck = self.stuck || self.folder.sync().is_err();
-        self.tally.count(self.stuck);
-        if self.stuck {
-            return Err(StoreFault);
-        }
-        Ok(())
+        let answer = self.folder.sync();
+        counted(&mut self.tally, answer)
     }
 
     fn faults(&self) -> u64 {

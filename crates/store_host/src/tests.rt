@@ -10,6 +10,11 @@ const BODY: ObjectId = ObjectId::Body {
     version: 1,
 };
 
+// Whether a thread may take it over, which is proved.
+fn may_be_sent<T: Send>(_value: &T) -> bool {
+    true
+}
+
 // Makes a folder with nothing in it but a file of another name.
 fn makes_folder(rt: &HostRuntime) -> bool {
     let _ = fs::remove_dir_all(rt, "kept");
@@ -55,6 +60,7 @@ fn keeps_what_was_synced(rt: HostRuntime) -> Result<(), Fail> {
         object: BODY,
         length: 5,
     };
+    assert!(rt; may_be_sent(&store));
     assert!(rt; lists(&mut store, &[body]));
     assert!(rt; reads_four(&mut store));
     assert_eq!(rt; store.delete(BODY), Ok(()));
@@ -78,6 +84,7 @@ fn spills_to_a_file(rt: HostRuntime) -> Result<(), Fail> {
     let _ = fs::create_dir(&rt, "spilled");
     let mut host = SpillFolder::open(rt, "spilled").map_err(|_| "opened")?;
     let mut device = host.take_device(4).map_err(|_| "taken")?;
+    assert!(rt; may_be_sent(&host) && may_be_sent(&device));
     assert!(rt; spills(&mut device));
     host.give_device(4, device);
     assert_eq!(rt; host.faults(), 0);
