@@ -6,13 +6,13 @@ use Rattle.gw_outside.specs.Causes.{Carries}
 use Rattle.gw_outside.specs.Tally.{joined_tally}
 use Rattle.gw_outside.specs.Writing.{AppendsPrefix}
 use Rattle.gw_model.specs.Ahead.{Outcomes, Outcome, Done, Failed, NoMemory, CallResult, Good, Bad, next_call, is_refused, outcome_of}
-use Rattle.gw_model.specs.File.{Answer, Body, SystemErr, NotWritten, NotGiven, Gave, opened_file}
+use Rattle.gw_model.specs.File.{Answer, Body, SystemErr, NotWritten, NotGiven, Gave, Committed, opened_file}
 use Rattle.gw_model.specs.Admission.{WriteRequest, ReadRequest, write_step}
 use Rattle.gw_model.specs.Statuses.{io}
 use Rattle.gw_model.specs.Sides.{SideStep, opened_side}
 use Rattle.gw_model.specs.Views.{TraceState}
 use Rattle.gw_config.specs.Settings.{Settings}
-use Rattle.tickets.specs.Desk.{DeskState}
+use Rattle.tickets.specs.Desk.{DeskState, TicketId}
 use Rattle.append_store.specs.State.{bytes_of}
 use Rattle.writeback.specs.State.{FileSeen, fresh_writer}
 use Rattle.writeback.specs.Steps.{with_calls}
@@ -27,17 +27,19 @@ use Rattle.admit.specs.Calls as admit
 use Rattle.admit.specs.Calls.{verdict_answers, is_refusal}
 use Rattle.admit.specs.declared.request.Verdict.{Verdict}
 use Rattle.admit.specs.declared.request.WriteReq.{WriteReq}
-use Rattle.file_calls.specs.Part.{Part, PartResult, send_result, answers_result, answer_result, refusal_result, request_result, file_step_result, first_write_result, write_act_result, read_act_result, call_read_request, stored_read_result, read_action, stored_range}
-use Rattle.file_calls.specs.Outside.{CarriesCounts, PartState, Store, body_at, counts_at, scene, IsOpen, IsPart, ahead_at, Action, StepsFrom}
+use Rattle.file_calls.specs.Part.{Part, PartResult, send_result, answers_result, answer_result, refusal_result, request_result, file_step_result, first_write_result, write_act_result, read_act_result, commit_act_result, call_read_request, call_commit_request, stored_read_result, read_action, commit_action, stored_range}
+use Rattle.file_calls.specs.Outside.{CarriesCounts, PartState, Store, body_at, counts_at, scene, IsOpen, IsPart, IsStep, ahead_at, Action, StepsFrom}
 use Rattle.file_calls.specs.Counts.{Counts, IsCounted, file_counts}
 use Rattle.file_calls.specs.Opening.{IsOpened, FailsClosed, IsStoredRange}
-use Rattle.file_calls.specs.PartSteps.{Continues, IsFrom, part_with_refusal, part_with_sent, part_with_verdict}
+use Rattle.file_calls.specs.PartSteps.{Continues, IsAsked, IsFrom, part_with_refusal, part_with_sent, part_with_verdict}
+use Rattle.file_calls.specs.Acts.{CommitFile}
+use Rattle.file_calls.specs.declared.call.CommitCall.{CommitCall}
 use Rattle.file_calls.specs.declared.call.ReadCall.{ReadCall}
 use Rattle.file_calls.specs.declared.opening.Failure.{Failure}
 use Rattle.file_calls.specs.declared.opening.Failure.TheVariants as failure
 use Rattle.file_calls.specs.declared.opening.StoredRange.{StoredRange}
-use Rattle.file_calls.proofs.Counts.{counts_fresh, with_refusal_counted}
-use Rattle.file_calls.proofs.PartRequests.{sent_step, from_here, refusal_is, refused_here, not_refused, of_follows, told_file, with_cell}
+use Rattle.file_calls.proofs.Counts.{counted_none, counts_fresh, with_refusal_counted}
+use Rattle.file_calls.proofs.PartRequests.{asked_step, commits, from_after, goes_on, last_ticket, sent_step, from_here, refusal_is, refused_here, not_refused, of_follows, told_file, with_cell}
 
 abbrev pub noting : TraceState → PartState → PartState
 noting n k = record k { noted = n }
@@ -225,6 +227,30 @@ module _ (tells : Type 0) (mid : PartState) (s s' : Store) (noted' : TraceState)
       = ap (stored_range call.offset (min call.count 1048576)) body ∙ ap (λ xs. Gave xs (nat_le (length (bytes_of s.body)) (call.offset + min call.count 1048576))) (sym (e.bytes_are told)) ∙ ap (Gave p.bytes.items) (sym (e.eof_is told)) in
       ap (λ b. answer_result w mid.desk.last b t) has)
       e.noted_is same e.counts
+
+-- COMMIT
+
+module _ (tells : Type 0) (conn notes : ℕ) (ticket : TicketId) (old mid : PartState) (s : Store) (call : CommitCall) (closed : mid.opened ≡ None) (a : IsAsked conn call.xid notes ticket old mid) where
+  done : StepsFrom tells (IsFrom mid.noted) (request_result (commit_action call)) (scene mid s) (scene (part_with_sent (reply mid.desk.last Committed) mid) s) (send_result mid.desk (reply mid.desk.last Committed)).text false
+  done =
+      sent_step tells (commit_action call) (scene mid s) (scene (part_with_sent (reply mid.desk.last Committed) mid) s) (reply mid.desk.last Committed) []
+      refl refl refl (sym (append-nil mid.noted.outcomes)) (λ later fine. from_after mid.noted later fine) (λ told. refl) (counted_none (counts_at s.counts mid.opened)) refl
+      (λ told w h later fine.
+      let t = ahead_at mid.noted later in
+      let shut = subst (λ o. IsOpen o (body_at s.body o) w) closed h.opened in
+      let last = ap (λ (d : DeskState). d.last) h.desk in (
+        w,
+        h.opened,
+        refl,
+        refl,
+        goes_on (commit_action call) mid.noted w later fine ∙ ap (λ o. commit_act_result o w (call_commit_request call w.desk.last) t) shut.0 ∙ ap (λ k. answer_result w k Committed t) last,
+      ))
+
+  pub commits_closed : (new : PartState) (answers : List Answer) → answers ≡ reply ticket.number Committed → new ≡ part_with_sent answers mid → IsStep tells (CommitFile conn call) (scene old s) (scene new s) (send_result mid.desk answers).text false
+  commits_closed new answers is kept =
+      let same : answers ≡ reply mid.desk.last Committed = is ∙ ap (λ k. reply k Committed) (last_ticket conn call.xid notes ticket old mid a) in
+      rw (kept, same) (commits tells conn call (scene old s) (scene (part_with_sent (reply mid.desk.last Committed) mid) s) (send_result mid.desk (reply mid.desk.last Committed)).text
+      (asked_step tells conn call.xid notes ticket old mid s a (commit_action call) (scene (part_with_sent (reply mid.desk.last Committed) mid) s) (send_result mid.desk (reply mid.desk.last Committed)).text done))
 
 -- the same, by the answer that the program sent
 pub of_answer : (tells : Type 0) (go : Action) (mid m new : PartState) (s s' : Store) (a : Sendable) (k : ℕ) (b : Body) → a.ticket.number ≡ k → body_of a.body ≡ b → new ≡ part_with_sent (answer_of a ∷ []) m

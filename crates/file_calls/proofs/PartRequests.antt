@@ -14,17 +14,18 @@ use Rattle.file_cell.specs.Files.{StandsFor, CellFollows}
 use Rattle.admit.specs.Calls as admit
 use Rattle.admit.specs.declared.request.WriteReq.{WriteReq}
 use Rattle.admit.specs.declared.request.ReadReq.{ReadReq}
-use Rattle.gw_model.specs.declared.Stable.TheVariants.{Unstable}
+use Rattle.admit.specs.declared.request.CommitReq.{CommitReq}
 use Rattle.admit.specs.Calls.{verdict_answers, ahead_after, is_refusal}
 use Rattle.admit.specs.declared.request.Verdict.{Verdict}
 use Rattle.admit.specs.declared.request.Verdict.TheVariants as verdict
-use Rattle.gw_model.specs.Admission.{WriteRequest, ReadRequest, write_step, read_step}
-use Rattle.file_calls.specs.Acts.{Act, IsRequest, CreateFile, BeginEvent, Reply, WriteFile, ReadFile, CloseConnection, HangUp, TurnFile, PumpFile}
+use Rattle.gw_model.specs.Admission.{WriteRequest, ReadRequest, CommitRequest, limit_of, write_step, read_step, commit_step}
+use Rattle.file_calls.specs.Acts.{Act, IsRequest, CreateFile, BeginEvent, Reply, WriteFile, ReadFile, CommitFile, CloseConnection, HangUp, TurnFile, PumpFile, SyncFile}
 use Rattle.file_calls.specs.Replies.{closed_line}
+use Rattle.file_calls.specs.declared.call.CommitCall.{CommitCall}
 use Rattle.file_calls.specs.declared.call.ReadCall.{ReadCall}
 use Rattle.file_calls.specs.declared.call.WriteCall.{WriteCall}
 use Rattle.file_calls.specs.Counts.{IsCounted, file_counts, joined_counts}
-use Rattle.file_calls.specs.Part.{Part, part_body, next_part, send_result, answers_result, text_to, file_step_result, with_request, unless_refused, request_result, new_request_result, reply_action, write_action, read_action, write_act_result, read_act_result, call_write_request, call_read_request}
+use Rattle.file_calls.specs.Part.{Part, part_body, next_part, send_result, answers_result, text_to, file_step_result, with_request, unless_refused, request_result, new_request_result, reply_action, write_action, read_action, commit_action, write_act_result, read_act_result, commit_act_result, call_write_request, call_read_request, call_commit_request}
 use Rattle.file_calls.specs.Outside.{PartState, Scene, Store, body_at, counts_at, scene, IsOpen, IsPart, ahead_at, IsAfter, Notes, LeavesScene, Action, StepsFrom, Steps, IsStep, IsActCut}
 use Rattle.gw_model.specs.Sides.{SideStep}
 use Rattle.file_cell.specs.Steps.{CellTells}
@@ -306,6 +307,10 @@ pub reads : (tells : Type 0) (conn : ℕ) (call : ReadCall) (old new : Scene) (t
 unfolding next_part
 reads tells conn call old new text s = s
 
+pub commits : (tells : Type 0) (conn : ℕ) (call : CommitCall) (old new : Scene) (text : List ℕ) → Steps tells (new_request_result conn call.xid (commit_action call)) old new text false → IsStep tells (CommitFile conn call) old new text false
+unfolding next_part
+commits tells conn call old new text s = s
+
 -- a request of the open file goes to it
 pub goes_write : (call : WriteCall) (q : WriteRequest) (ticket : ℕ) (settings : Settings) → q ≡ call_write_request call ticket → GoesTo (write_action call) (λ f t. write_step settings.limits f q t) ticket settings
 goes_write call q ticket settings is w f t opened last same =
@@ -316,6 +321,11 @@ pub goes_read : (call : ReadCall) (q : ReadRequest) (ticket : ℕ) (settings : S
 goes_read call q ticket settings is w f t opened last same =
     ap (λ o. read_act_result o w (call_read_request call w.desk.last) t) opened ∙ ap (λ x. file_step_result w (read_step w.settings.limits f x t)) (ap (call_read_request call) last ∙ sym is)
     ∙ ap (λ (x : Settings). file_step_result w (read_step x.limits f q t)) same
+
+pub goes_commit : (call : CommitCall) (q : CommitRequest) (ticket : ℕ) (settings : Settings) → q ≡ call_commit_request call ticket → GoesTo (commit_action call) (λ f t. commit_step settings.limits f q t) ticket settings
+goes_commit call q ticket settings is w f t opened last same =
+    ap (λ o. commit_act_result o w (call_commit_request call w.desk.last) t) opened ∙ ap (λ x. file_step_result w (commit_step w.settings.limits f x t)) (ap (call_commit_request call) last ∙ sym is)
+    ∙ ap (λ (x : Settings). file_step_result w (commit_step x.limits f q t)) same
 
 -- one that goes the same way
 pub same_way : (tells : Type 0) (go go' : Action) (mid new : Scene) (text : List ℕ) → ((w : Part) (t : Outcomes) → IsPart mid w → go w t ≡ go' w t)
@@ -345,7 +355,7 @@ last_ticket conn xid notes ticket old mid a = ap (λ (x : TicketId). x.number) a
 
 module _ (tells : Type 0) (conn notes : ℕ) (ticket : TicketId) (old mid : PartState) (s : Store) (c d : CellState) (v : Verdict) (told : SideStep) (is_open : mid.opened ≡ Some c) (limits : c.limits ≡ mid.settings.limits) where
   -- a WRITE of the open file
-  pub write_acts : (call : WriteCall) (r : WriteReq) → IsAsked conn call.xid notes ticket old mid → r ≡ record { offset = call.offset; stable = Unstable; bytes = call.content; ticket = ticket; moment = 0 } → CellTells v r.ticket c told d → cell.CellWrites v c r d
+  pub write_acts : (call : WriteCall) (r : WriteReq) → IsAsked conn call.xid notes ticket old mid → r ≡ record { offset = call.offset; stable = call.stable; bytes = call.content; ticket = ticket; moment = 0 } → CellTells v r.ticket c told d → cell.CellWrites v c r d
       → IsStep tells (WriteFile conn call) (scene old s) (scene (part_with_verdict v (with_cell d mid)) s) (send_result mid.desk (verdict_answers v)).text false
   write_acts call r a is t w =
       let last = ap (λ (x : WriteReq). x.ticket.number) is ∙ last_ticket conn call.xid notes ticket old mid a in
@@ -366,10 +376,21 @@ module _ (tells : Type 0) (conn notes : ℕ) (ticket : TicketId) (old mid : Part
       (open_step tells (read_action call) (λ f t. read_step mid.settings.limits f (admit.read_request r) t) mid c d s is_open (goes_read call (admit.read_request r) mid.desk.last mid.settings q) (told_file v r.ticket c told d t)
       v r.ticket last (told_of_asker v r.ticket c told d t) (subst (λ x. (f : File) (t : Outcomes) → StandsFor c f → is_refused t ≡ is_refusal v → CellFollows v t (read_step x f (admit.read_request r) t) d) limits w)))
 
+  -- a COMMIT of it
+  pub commit_acts : (call : CommitCall) (limit : ℕ) (r : CommitReq) → limit ≡ limit_of call.offset call.count → IsAsked conn call.xid notes ticket old mid → r ≡ record { limit = limit; ticket = ticket; moment = 0 } → CellTells v r.ticket c told d → cell.CellCommits v c r d
+      → IsStep tells (CommitFile conn call) (scene old s) (scene (part_with_verdict v (with_cell d mid)) s) (send_result mid.desk (verdict_answers v)).text false
+  commit_acts call limit r limited a is t w =
+      let last = ap (λ (x : CommitReq). x.ticket.number) is ∙ last_ticket conn call.xid notes ticket old mid a in
+      let q = ap admit.commit_request is ∙ ap (λ n. let x : CommitRequest = record { limit = n; ticket = ticket.number; moment = 0 } in x) limited ∙ ap (λ x. call_commit_request call x) (last_ticket conn call.xid notes ticket old mid a) in
+      commits tells conn call (scene old s) (scene (part_with_verdict v (with_cell d mid)) s) (send_result mid.desk (verdict_answers v)).text
+      (asked_step tells conn call.xid notes ticket old mid s a (commit_action call) (scene (part_with_verdict v (with_cell d mid)) s) (send_result mid.desk (verdict_answers v)).text
+      (open_step tells (commit_action call) (λ f t. commit_step mid.settings.limits f (admit.commit_request r) t) mid c d s is_open (goes_commit call (admit.commit_request r) mid.desk.last mid.settings q) (told_file v r.ticket c told d t)
+      v r.ticket last (told_of_asker v r.ticket c told d t) (subst (λ x. (f : File) (t : Outcomes) → StandsFor c f → is_refused t ≡ is_refusal v → CellFollows v t (commit_step x f (admit.commit_request r) t) d) limits w)))
+
 -- what a request of the closed file comes to
 module _ (tells : Type 0) (conn notes : ℕ) (ticket : TicketId) (old mid : PartState) (s : Store) where
   -- a WRITE that opens the file
-  pub first_step : (call : WriteCall) (r : WriteReq) → IsAsked conn call.xid notes ticket old mid → r ≡ record { offset = call.offset; stable = Unstable; bytes = call.content; ticket = ticket; moment = 0 }
+  pub first_step : (call : WriteCall) (r : WriteReq) → IsAsked conn call.xid notes ticket old mid → r ≡ record { offset = call.offset; stable = call.stable; bytes = call.content; ticket = ticket; moment = 0 }
       → (new : Scene) (text : List ℕ) → StepsFrom tells (IsFrom mid.noted) (request_result (λ w t. write_act_result w.opened w (admit.write_request r) t)) (scene mid s) new text false → IsStep tells (WriteFile conn call) (scene old s) new text false
   first_step call r a is new text t =
       let q = ap admit.write_request is ∙ ap (λ x. call_write_request call x) (last_ticket conn call.xid notes ticket old mid a) in
@@ -428,12 +449,14 @@ refuses tells act conn xid notes ticket old mid new s a is kept = go act is
     go (Reply c x reply) (same, number) = says tells c x reply (scene old s) (scene new s) text (rw (same, number) (by (reply_action reply)))
     go (ReadFile c call) (same, number) = reads tells c call (scene old s) (scene new s) text (rw (same, number) (by (read_action call)))
     go (WriteFile c call) (same, number) = writes tells c call (scene old s) (scene new s) text (rw (same, number) (by (write_action call)))
+    go (CommitFile c call) (same, number) = commits tells c call (scene old s) (scene new s) text (rw (same, number) (by (commit_action call)))
     go CreateFile none = absurd none
     go BeginEvent none = absurd none
     go (CloseConnection c) none = absurd none
     go (HangUp c) none = absurd none
     go TurnFile none = absurd none
     go PumpFile none = absurd none
+    go SyncFile none = absurd none
 
 -- the end of a connection
 pub ends_step : (tells : Type 0) (conn : ℕ) (old new : PartState) (s : Store) → new ≡ record old { desk = with_cancelled conn old.desk } → IsStep tells (CloseConnection conn) (scene old s) (scene new s) (closed_line conn) false

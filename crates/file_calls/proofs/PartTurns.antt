@@ -1,4 +1,4 @@
--- What a turn and a pump of the open file leave.
+-- What a turn, a pump and a sync of the open file leave.
 use Rattle.std.proofs.Common.{◌≡◌, ℕ, ◌-◌, ◌^◌, ◌<◌, inr, Bool, true, false, List, [], ◌∷◌, ◌++◌, map, Option, Some, None, Result, Ok, Err, refl, sym, ◌∙◌, ap, subst, append_assoc, append-nil, arith}
 use Rattle.std.specs.Prelude.{◌&&◌, IfOk, OnErr, IsErr}
 use Rattle.file_cell.specs.declared.writer_side.Stepped.{Stepped}
@@ -7,20 +7,21 @@ use Rattle.gw_model.specs.Ahead.{Outcomes, Outcome, NoMemory, CallResult, Good, 
 use Rattle.gw_model.specs.File.{Answer, File}
 use Rattle.gw_model.specs.Admission.{pump_step}
 use Rattle.gw_model.specs.Views.{TraceState, next_event}
-use Rattle.gw_model.specs.Writer.{turn_step}
+use Rattle.gw_model.specs.Writer.{turn_step, sync_step}
 use Rattle.gw_config.specs.Settings.{Settings}
 use Rattle.tickets.specs.Desk.{DeskState, waiting_ticket}
 use Rattle.tickets.specs.declared.answer.Answer.{Answer as Sendable}
 use Rattle.tickets.specs.Answers.{answer_of}
 use Rattle.admit.specs.GivenUp.{Hands}
 use Rattle.writeback.specs.State.{FileSeen}
-use Rattle.writeback.specs.Steps.{Leaves, is_want, past_refusal_if, put_bytes, takes_memory, with_calls}
+use Rattle.writeback.specs.Steps.{Leaves, is_want, past_refusal_if, put_bytes, sync_call, takes_memory, with_calls}
+use Rattle.writeback.specs.declared.owed.Synced.{Synced}
 use Rattle.file_cell.specs.State.{CellState}
-use Rattle.file_cell.specs.Files.{StandsFor, Idles, CellPumps}
+use Rattle.file_cell.specs.Files.{StandsFor, Idles, CellPumps, SyncsFor}
 use Rattle.file_cell.specs.Steps as cell
-use Rattle.file_calls.specs.Acts.{Act, TurnFile, PumpFile}
+use Rattle.file_calls.specs.Acts.{Act, TurnFile, PumpFile, SyncFile}
 use Rattle.file_calls.specs.Counts.{IsCounted, file_counts, joined_counts}
-use Rattle.file_calls.specs.Part.{Part, act_result, send_result, answers_result, file_step_result, answer_line, desk_after, turn_act_result, pump_act_result, at_event, next_part}
+use Rattle.file_calls.specs.Part.{Part, act_result, send_result, answers_result, file_step_result, answer_line, desk_after, turn_act_result, pump_act_result, sync_act_result, at_event, next_part}
 use Rattle.file_calls.specs.Outside.{PartState, Scene, Store, body_at, counts_at, scene, IsOpen, ahead_at, are_after, IsAfter, LeavesScene, IsStep, IsActCut}
 use Rattle.file_calls.specs.PartSteps.{IsFrom, IsJob, IsTurnOf, SameSettings, IsPlainAnswer, first_answers, noted_after, is_want_in}
 use Rattle.file_calls.proofs.OneReply.{speaks_answers, speaks_none}
@@ -246,6 +247,44 @@ module _ (tells : Type 0) (old : PartState) (c d : CellState) (s : Store) (n : T
             (sending u (scene pumped s) old.desk d.left later (step.file, refl, with_left d [] step.file r.stands, sym r.stands.content) h.desk refl h.settings);
       }
 
+-- a sync
+module _ (tells : Type 0) (old : PartState) (c d : CellState) (s : Store) (n n' : TraceState) (how : Synced) (is_open : old.opened ≡ Some c) (begun : n ≡ record (next_event old.noted) { room = n.room }) (few : old.noted.event < 2 ^ 64 - 1)
+    (notes : n' ≡ with_calls (sync_call how ∷ []) n) (leaves : Leaves tells [] (sync_call how ∷ []) c.file d.file) (means : SyncsFor tells how c d) where
+  abbrev pub synced : PartState
+  synced = record { opened = Some (record d { left = [] }); desk = (send_result old.desk d.left).desk; noted = n'; settings = old.settings }
+
+  abbrev made : List Outcome
+  made = map outcome_of (sync_call how ∷ [])
+
+  pub sync_acts : IsStep tells SyncFile (scene old s) (scene synced s) (send_result old.desk d.left).text false
+  unfolding next_part
+  sync_acts =
+      let event = ap (λ (x : TraceState). x.event) notes in
+      let request = ap (λ (x : TraceState). x.request) notes in
+      record {
+        outcomes = made;
+        put = [];
+        notes = ap (λ (x : TraceState). x.outcomes) notes ∙ ap (λ (x : TraceState). x.outcomes ++ made) begun;
+        speaks = speaks_answers d.left old.desk;
+        passed = record {
+          after = λ later fine. after_event old.noted (made ++ later) few (subst (λ (x : TraceState). IsFrom x (made ++ later)) begun
+              (from_calls n (sync_call how ∷ []) later (from_after n later (same_numbers n n' later event request fine))));
+          puts = λ told. leaves.content told ∙ append-nil c.file.content ∙ sym (ap (body_at s.body) is_open) ∙ sym (append-nil (body_at s.body old.opened));
+          counts = subst (λ o. IsCounted made (counts_at s.counts o) (counts_at s.counts (Some d))) (sym is_open) (counted_out s.counts made (file_counts c.file) (file_counts d.file) (counted_calls (sync_call how ∷ []) c.file d.file leaves));
+        };
+        next = λ told w h later fine.
+            let o = subst (λ x. IsOpen x (body_at s.body x) w) is_open h.opened in
+            let r = means told o.0 (ahead_at n later) o.2 in
+            let step = sync_step o.0 (ahead_at n (made ++ later)) in
+            let u : Part = record w { opened = Some step.file } in
+            let goes : sync_act_result w.opened w (at_event (ahead_at old.noted (made ++ later))) ≡ answers_result u d.left (ahead_at n' later)
+            = ap (λ x. sync_act_result x w (at_event (ahead_at old.noted (made ++ later)))) o.1
+            ∙ ap (λ (x : TraceState). file_step_result w (sync_step o.0 (ahead_at x (made ++ later)))) (sym begun)
+            ∙ ap (λ a. answers_result u a step.ahead) r.answers ∙ ap (λ x. answers_result u d.left x) (r.ahead ∙ same_ahead n n' later event request) in
+            subst (λ x. LeavesScene (scene synced s) (send_result old.desk d.left).text false later x) (sym goes)
+            (sending u (scene synced s) old.desk d.left later (step.file, refl, with_left d [] step.file r.stands, sym r.stands.content) h.desk refl h.settings);
+      }
+
 -- no file is open
 module _ (tells : Type 0) (old : PartState) (s : Store) (n : TraceState) (closed : old.opened ≡ None) (begun : n ≡ record (next_event old.noted) { room = n.room }) (few : old.noted.event < 2 ^ 64 - 1) where
   abbrev idle : PartState
@@ -275,6 +314,10 @@ module _ (tells : Type 0) (old : PartState) (s : Store) (n : TraceState) (closed
   pub closed_pump : (text : List ℕ) → text ≡ [] → IsStep tells PumpFile (scene old s) (scene idle s) text false
   unfolding next_part
   closed_pump text none = closed_step PumpFile (λ w t shut. ap (λ x. pump_act_result x w (at_event t)) shut) text none
+
+  pub closed_sync : (text : List ℕ) → text ≡ [] → IsStep tells SyncFile (scene old s) (scene idle s) text false
+  unfolding next_part
+  closed_sync text none = closed_step SyncFile (λ w t shut. ap (λ x. sync_act_result x w (at_event t)) shut) text none
 
 -- an event that want of memory cut off as it began
 pub begun_cut : (tells : Type 0) (act : Act) (old : PartState) (s : Store) (n : TraceState) → n ≡ record (next_event old.noted) { room = n.room } → IsActCut tells act (scene old s) (scene (record old { noted = n }) s)

@@ -1,18 +1,18 @@
 -- The sequential definition, cut to one file's part: what each act leaves of it, and what it writes.
 use Rattle.std.specs.Prelude.{ℕ, ◌+◌, ◌^◌, min, nat_le, Bool, true, false, List, [], ◌∷◌, ◌++◌, length, Option, Some, None}
-use Rattle.gw_model.specs.declared.Stable.TheVariants.{Unstable}
 use Rattle.gw_model.specs.Ahead.{Outcomes, CallResult, Good, Bad, next_call, is_refused, past_refusal}
-use Rattle.gw_model.specs.File.{Body, NotWritten, Gave, NotGiven, SystemErr, Silence, Answer, File, Step, opened_file, content}
-use Rattle.gw_model.specs.Admission.{write_step, WriteRequest, read_step, ReadRequest, pump_step}
+use Rattle.gw_model.specs.File.{Body, NotWritten, Gave, NotGiven, Committed, SystemErr, Silence, Answer, File, Step, opened_file, content}
+use Rattle.gw_model.specs.Admission.{write_step, WriteRequest, read_step, ReadRequest, commit_step, CommitRequest, limit_of, pump_step}
 use Rattle.gw_model.specs.Statuses.{io}
 use Rattle.gw_model.specs.Views.{raised}
-use Rattle.gw_model.specs.Writer.{turn_step, range_of}
+use Rattle.gw_model.specs.Writer.{turn_step, sync_step, range_of}
 use Rattle.gw_config.specs.Settings.{Settings}
 use Rattle.tickets.specs.Desk.{TicketId, DeskState, waiting_ticket, with_issued, with_dropped, with_answered, with_cancelled}
 use Rattle.file_calls.specs.Replies.{reply_bytes, reply_line, closed_line}
+use Rattle.file_calls.specs.declared.call.CommitCall.{CommitCall}
 use Rattle.file_calls.specs.declared.call.ReadCall.{ReadCall}
 use Rattle.file_calls.specs.declared.call.WriteCall.{WriteCall}
-use Rattle.file_calls.specs.Acts.{Act, CreateFile, BeginEvent, Reply, WriteFile, ReadFile, CloseConnection, HangUp, TurnFile, PumpFile}
+use Rattle.file_calls.specs.Acts.{Act, CreateFile, BeginEvent, Reply, WriteFile, ReadFile, CommitFile, CloseConnection, HangUp, TurnFile, PumpFile, SyncFile}
 
 -- One file's part of the world, with the tickets and the settings, which all files share.
 pub record Part : Type 0 where
@@ -114,7 +114,7 @@ reply_result reply w t = act_result (record w { desk = with_answered w.desk.last
 -- WRITE
 
 abbrev pub call_write_request : WriteCall → ℕ → WriteRequest
-call_write_request call ticket = record { offset = call.offset; bytes = call.content; level = Unstable; ticket = ticket; moment = 0 }
+call_write_request call ticket = record { offset = call.offset; bytes = call.content; level = call.stable; ticket = ticket; moment = 0 }
 
 -- by what the call did that takes the body from the store, and whether memory is refused then
 abbrev pub first_write_result : CallResult → Bool → Part → WriteRequest → Outcomes → PartResult
@@ -147,6 +147,16 @@ abbrev pub read_act_result : Option File → Part → ReadRequest → Outcomes �
 read_act_result (Some f) w q t = file_step_result w (read_step w.settings.limits f q t)
 read_act_result None w q t = let c = next_call t in stored_read_result c.called (is_refused c.ahead) w q c.ahead
 
+-- COMMIT
+
+abbrev pub call_commit_request : CommitCall → ℕ → CommitRequest
+call_commit_request call ticket = record { limit = limit_of call.offset call.count; ticket = ticket; moment = 0 }
+
+-- one that finds the file closed is done at once (RFC 1813 section 3.3.21)
+abbrev pub commit_act_result : Option File → Part → CommitRequest → Outcomes → PartResult
+commit_act_result (Some f) w q t = file_step_result w (commit_step w.settings.limits f q t)
+commit_act_result None w q t = answer_result w q.ticket Committed t
+
 -- steps of the file
 
 -- the `file` line creates the body, and the run ends where that fails
@@ -154,7 +164,7 @@ abbrev pub creation_result : CallResult → Part → Outcomes → PartResult
 creation_result Good w t = act_result w [] t
 creation_result (Bad kept) w t = record (act_result w [] t) { stopped = true }
 
--- a turn and a pump are events of their own
+-- a turn, a pump and a sync are events of their own
 abbrev pub turn_act_result : Option File → Part → Outcomes → PartResult
 turn_act_result None w t = act_result w [] t
 turn_act_result (Some f) w t = file_step_result w (turn_step f t)
@@ -162,6 +172,10 @@ turn_act_result (Some f) w t = file_step_result w (turn_step f t)
 abbrev pub pump_act_result : Option File → Part → Outcomes → PartResult
 pump_act_result None w t = act_result w [] t
 pump_act_result (Some f) w t = file_step_result w (pump_step w.settings.limits f t)
+
+abbrev pub sync_act_result : Option File → Part → Outcomes → PartResult
+sync_act_result None w t = act_result w [] t
+sync_act_result (Some f) w t = file_step_result w (sync_step f t)
 
 -- a connection ends: none of its requests is answered any more
 abbrev pub closing_result : Part → ℕ → Outcomes → PartResult
@@ -176,6 +190,9 @@ write_action call w t = write_act_result w.opened w (call_write_request call w.d
 abbrev pub read_action : ReadCall → Part → Outcomes → PartResult
 read_action call w t = read_act_result w.opened w (call_read_request call w.desk.last) t
 
+abbrev pub commit_action : CommitCall → Part → Outcomes → PartResult
+commit_action call w t = commit_act_result w.opened w (call_commit_request call w.desk.last) t
+
 -- it hangs up: so too, and nothing is written
 abbrev pub hang_up_result : Part → ℕ → Outcomes → PartResult
 hang_up_result w conn t = act_result (record w { desk = with_cancelled conn w.desk }) [] t
@@ -186,7 +203,9 @@ next_part w BeginEvent t = act_result w [] (at_event t)
 next_part w (Reply conn xid reply) t = new_request_result conn xid (reply_action reply) w t
 next_part w (WriteFile conn call) t = new_request_result conn call.xid (write_action call) w t
 next_part w (ReadFile conn call) t = new_request_result conn call.xid (read_action call) w t
+next_part w (CommitFile conn call) t = new_request_result conn call.xid (commit_action call) w t
 next_part w (HangUp conn) t = hang_up_result w conn (at_event t)
 next_part w (CloseConnection conn) t = closing_result w conn t
 next_part w TurnFile t = turn_act_result w.opened w (at_event t)
 next_part w PumpFile t = pump_act_result w.opened w (at_event t)
+next_part w SyncFile t = sync_act_result w.opened w (at_event t)

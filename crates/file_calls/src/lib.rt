@@ -11,11 +11,12 @@ mod reply;
 mod tests;
 mod tracker;
 
-pub use call::{ReadCall, WriteCall};
+pub use call::{CommitCall, ReadCall, WriteCall};
 pub use laws::send_laws;
 pub use part::{
-    FirstWrite, StepResult, close_cell, create_body, first_write, idle_event, pump_cell, read_cell,
-    read_closed, refuse_write, step_result, turn_cell, write_cell,
+    FirstWrite, StepResult, close_cell, commit_cell, commit_closed, create_body, first_write,
+    idle_event, pump_cell, read_cell, read_closed, refuse_write, step_result, sync_cell, turn_cell,
+    write_cell,
 };
 pub use reply::body_reply;
 pub use tracker::RequestTracker;

@@ -7,21 +7,21 @@ ghost use Rattle.append_store.specs.State.{Lent, Missing, IsAway, bytes_of};
 ghost use Rattle.admit.specs.Calls.{write_request};
 ghost use Rattle.file_cell.specs.State.{CellState};
 ghost use Rattle.file_calls.specs.Counts.{file_counts};
-ghost use Rattle.file_calls.specs.Acts.{CreateFile, WriteFile, ReadFile, TurnFile, PumpFile};
+ghost use Rattle.file_calls.specs.Acts.{CreateFile, WriteFile, ReadFile, CommitFile, TurnFile, PumpFile, SyncFile};
 ghost use Rattle.file_calls.specs.Part.{read_action, request_result, send_result, write_act_result};
 ghost use Rattle.file_calls.specs.Outside.{Store, body_id, part_state, scene, scene_of, store_counts, CarriesCounts, OthersStay};
 ghost use Rattle.file_calls.specs.Outside.{IsActCut, IsActed, IsBodyHome, IsBodySafe, IsText, StepsTo};
 ghost use Rattle.file_calls.specs.PartSteps.{IsCellReady, IsClosedBy, IsJob, IsPlainAnswer, IsReadyIn, SameNumbers, SameSettings, Tries, first_answers, is_want_in};
 
 use crate::answers::{not_written, read_answer, send_left, send_one};
-use crate::call::{ReadCall, WriteCall};
+use crate::call::{CommitCall, ReadCall, WriteCall};
 use crate::opening::{Failure, open_file, read_body};
 use crate::tracker::{NOTES, RequestTracker};
-use admit::{ReadReq, Verdict, WriteReq};
+use admit::{CommitReq, ReadReq, Verdict, WriteReq};
 use append_store::{AppendFile, Cluster, CreateFault};
 use file_cell::{Closed, FileCell, Why};
 use gw_model::status::{NFS3_OK, NFS3ERR_IO};
-use gw_model::{ObjectId, Outcome, Stable, Trace};
+use gw_model::{ObjectId, Outcome, Trace};
 use gw_outside::{Sink, WriteFault};
 use range_map::{PendingMap, TreeMap};
 use std::alloc::{AllocError, Global};
@@ -148,12 +148,43 @@ pub fn pump_cell<F: AppendFile, M: PendingMap>(
     )
 }
 
+/// An event: what an open file has stored is made durable, and those that waited for it are answered. Takes memory.
+pub fn sync_cell<F: AppendFile, M: PendingMap>(
+    cell: &mut FileCell<F, M>,
+    tracker: &mut RequestTracker,
+) -> Result<String, AllocError>
+    requires none_left { cell.old.left ≡ [] }
+    requires few { tracker.old.noted.event < 2 ^ 64 - 1 }
+    ensures ok { (s : Store) → IfOk result (StepsTo F.tells SyncFile
+        (scene (part_state (Some cell.old) tracker.old) s) (scene (part_state (Some cell.new) tracker.new) s)) }
+    ensures err { (s : Store) → OnErr result (IsActCut F.tells SyncFile
+        (scene (part_state (Some cell.old) tracker.old) s) (scene (part_state (Some cell.new) tracker.new) s)) }
+    ensures none_left { cell.new.left ≡ [] }
+    ensures same { SameSettings cell.old cell.new }
+    ensures event { tracker.new.noted.event ≡ tracker.old.noted.event + 1 }
+    ensures settings { tracker.new.settings ≡ tracker.old.settings }
+{
+    tracker.trace.begin_event();
+    if tracker.trace.reserve(NOTES).is_err() {
+        return Err(AllocError);
+    }
+    cell.sync_step(&mut tracker.trace);
+    send_left(
+        tracker.alloc,
+        &mut tracker.desk,
+        cell,
+        Ok(String::new(tracker.alloc)),
+    )
+}
+
 /// An event of a file that isn't open: nothing is done but that it begins.
 pub fn idle_event(tracker: &mut RequestTracker) -> String
     requires few { tracker.old.noted.event < 2 ^ 64 - 1 }
     ensures turn { (s : Store) → StepsTo (Unit {0}) TurnFile
         (scene (part_state None tracker.old) s) (scene (part_state None tracker.new) s) result }
     ensures pump { (s : Store) → StepsTo (Unit {0}) PumpFile
+        (scene (part_state None tracker.old) s) (scene (part_state None tracker.new) s) result }
+    ensures sync { (s : Store) → StepsTo (Unit {0}) SyncFile
         (scene (part_state None tracker.old) s) (scene (part_state None tracker.new) s) result }
     ensures event { tracker.new.noted.event ≡ tracker.old.noted.event + 1 }
     ensures settings { tracker.new.settings ≡ tracker.old.settings }
@@ -184,7 +215,7 @@ pub fn write_cell<F: AppendFile, M: PendingMap>(
     let ticket = tracker.begin_request(conn, call.xid)?;
     let verdict = cell.write(WriteReq {
         offset: call.offset,
-        stable: Stable::Unstable,
+        stable: call.stable,
         bytes: call.content,
         ticket,
         moment: 0,
@@ -217,6 +248,49 @@ pub fn read_cell<F: AppendFile, M: PendingMap>(
         moment: 0,
     });
     tracker.send_verdict(verdict)
+}
+
+/// A COMMIT of an open file. Takes memory.
+pub fn commit_cell<F: AppendFile, M: PendingMap>(
+    conn: u32,
+    call: CommitCall,
+    cell: &mut FileCell<F, M>,
+    tracker: &mut RequestTracker,
+) -> Result<String, AllocError>
+    requires limits { cell.old.limits ≡ tracker.old.settings.limits }
+    ensures ok { (s : Store) → IfOk result (StepsTo F.tells (CommitFile conn call)
+        (scene (part_state (Some cell.old) tracker.old) s) (scene (part_state (Some cell.new) tracker.new) s)) }
+    ensures err { (s : Store) → OnErr result (IsActCut F.tells (CommitFile conn call)
+        (scene (part_state (Some cell.old) tracker.old) s) (scene (part_state (Some cell.new) tracker.new) s)) }
+    ensures ready { (limits : Limits) (k : ℕ) → IsCellReady limits k cell.old → IsCellReady limits k cell.new }
+    ensures same { cell.new.file ≡ cell.old.file }
+    ensures event { tracker.new.noted.event ≡ tracker.old.noted.event }
+    ensures settings { tracker.new.settings ≡ tracker.old.settings }
+{
+    let ticket = tracker.begin_request(conn, call.xid)?;
+    let verdict = cell.commit(CommitReq {
+        limit: call.limit(),
+        ticket,
+        moment: 0,
+    });
+    tracker.send_verdict(verdict)
+}
+
+/// A COMMIT of a file that isn't open: it is done at once. Takes memory.
+pub fn commit_closed(
+    conn: u32,
+    call: CommitCall,
+    tracker: &mut RequestTracker,
+) -> Result<String, AllocError>
+    ensures ok { (s : Store) → IfOk result (StepsTo (Unit {0}) (CommitFile conn call)
+        (scene (part_state None tracker.old) s) (scene (part_state None tracker.new) s)) }
+    ensures err { (s : Store) → OnErr result (IsActCut (Unit {0}) (CommitFile conn call)
+        (scene (part_state None tracker.old) s) (scene (part_state None tracker.new) s)) }
+    ensures event { tracker.new.noted.event ≡ tracker.old.noted.event }
+    ensures settings { tracker.new.settings ≡ tracker.old.settings }
+{
+    let ticket = tracker.begin_request(conn, call.xid)?;
+    tracker.send(Answer::committed(ticket))
 }
 
 /// A WRITE for which there was no memory, whether its file is open or not. Takes memory for the reply.
@@ -322,7 +396,7 @@ pub fn first_write<C: Cluster>(
         Ok(ticket) => {
             let request = WriteReq {
                 offset: call.offset,
-                stable: Stable::Unstable,
+                stable: call.stable,
                 bytes: call.content,
                 ticket,
                 moment: 0,

@@ -10,7 +10,7 @@ use append_store::{AppendFile, Cluster, MemCluster};
 use bytes::Bytes;
 use file_cell::FileCell;
 use gw_config::Config;
-use gw_model::ObjectId;
+use gw_model::{ObjectId, Stable};
 use gw_outside::MemSink;
 use range_map::TreeMap;
 use std::alloc::Global;
@@ -67,6 +67,7 @@ fn opened<C: Cluster>(
     let call = WriteCall {
         xid: 1,
         offset: 0,
+        stable: Stable::Unstable,
         content: Bytes::from_static(bytes),
     };
     let FirstWrite { cell, text } = first_write(1, 4, call, tracker, cluster);

@@ -1,7 +1,6 @@
 -- A WRITE's data is short, and want of memory is for what a message asks for.
 use Rattle.std.proofs.Common.{◌≡◌, ◌≢◌, ℕ, Bool, true, false, cond, ◌==◌, ◌||◌, nat_le, ◌+◌, ◌^◌, not, List, length, refl, sym, ◌∙◌, subst, Result, Ok, Err, IfOk, IfErr}
 use Rattle.gw_model.specs.declared.Stable.{Stable}
-use Rattle.gw_model.specs.declared.Stable.TheVariants.{Unstable, DataSync, FileSync}
 use Rattle.xdr.specs.declared.fault.XdrFault.{XdrFault}
 use Rattle.rpc_msg.specs.declared.call.Call.{Call}
 use Rattle.rpc_msg.specs.declared.fault.CallFault.{CallFault}
@@ -13,6 +12,7 @@ use Rattle.nfs_wire.specs.Arguments.{args_of}
 use Rattle.nfs_wire.specs.Bounds.{IsWithin}
 use Rattle.nfs_wire.proofs.Bounds.{read_within}
 use Rattle.file_requests.specs.declared.message.WriteArgs.{WriteArgs}
+use Rattle.file_requests.specs.declared.message.CommitArgs.{CommitArgs}
 use Rattle.file_requests.specs.declared.message.ReadArgs.{ReadArgs}
 use Rattle.file_requests.specs.declared.message.Asked.{Asked}
 use Rattle.file_requests.specs.declared.message.Asked.TheVariants as asked
@@ -20,8 +20,8 @@ use Rattle.file_requests.specs.declared.message.Refused.{Refused}
 use Rattle.rpc_msg.specs.Numbers.{proc_unavail}
 use Rattle.gw_config.specs.Settings.{Settings}
 use Rattle.nfs_wire.specs.Programs.{nfs_program, mount_program, nfs_version}
-use Rattle.file_requests.specs.Messages.{IsFew, reply_to, write_with, asked_with, asked_by_args, is_served, asked_by_call, asked_by_fault, asked_of, handle_file, write_file}
-use Rattle.file_requests.specs.Targets.{Target, IsRequestOf, is_close, judged_read, judged_write, target_by}
+use Rattle.file_requests.specs.Messages.{IsFew, reply_to, asked_with, asked_by_args, is_served, asked_by_call, asked_by_fault, asked_of, handle_file, write_file}
+use Rattle.file_requests.specs.Targets.{Target, IsRequestOf, is_close, judged_commit, judged_read, judged_write, target_by}
 use Rattle.file_requests.specs.MessageFaults.{IsAskedOr, HasXid, IsAskedBy}
 
 -- a WRITE's data is short
@@ -31,9 +31,7 @@ few_cond true x y h k = h
 few_cond false x y h k = k
 
 few_with : (xid : ℕ) (a : Args) → IsWithin a → IsFew (asked_with xid a)
-few_with xid (args.Write handle offset count Unstable written) within = within.1
-few_with xid (args.Write handle offset count DataSync written) within = tt
-few_with xid (args.Write handle offset count FileSync written) within = tt
+few_with xid (args.Write handle offset count stable written) within = within.1
 few_with xid args.Null within = tt
 few_with xid args.MountNull within = tt
 few_with xid _ within = tt
@@ -62,12 +60,14 @@ Starves m fault = (n : ℕ) → ◌≡◌ {A = Result Call CallFault} (Err fault
 -- the arguments of a procedure that isn't served
 
 pub asked_else : (xid : ℕ) (a : Args) → a ≢ args.Null → a ≢ args.MountNull → ((handle : List ℕ) (offset count : ℕ) → a ≢ args.Read handle offset count)
-    → ((handle : List ℕ) (offset count : ℕ) (stable : Stable) (written : List ℕ) → a ≢ args.Write handle offset count stable written) → asked_with xid a ≡ reply_to xid proc_unavail
-asked_else xid args.Null null mount read write = absurd (null refl)
-asked_else xid args.MountNull null mount read write = absurd (mount refl)
-asked_else xid (args.Read handle offset count) null mount read write = absurd (read handle offset count refl)
-asked_else xid (args.Write handle offset count stable written) null mount read write = absurd (write handle offset count stable written refl)
-asked_else xid _ null mount read write = refl
+    → ((handle : List ℕ) (offset count : ℕ) (stable : Stable) (written : List ℕ) → a ≢ args.Write handle offset count stable written) → ((handle : List ℕ) (offset count : ℕ) → a ≢ args.Commit handle offset count)
+    → asked_with xid a ≡ reply_to xid proc_unavail
+asked_else xid args.Null null mount read write commit = absurd (null refl)
+asked_else xid args.MountNull null mount read write commit = absurd (mount refl)
+asked_else xid (args.Read handle offset count) null mount read write commit = absurd (read handle offset count refl)
+asked_else xid (args.Write handle offset count stable written) null mount read write commit = absurd (write handle offset count stable written refl)
+asked_else xid (args.Commit handle offset count) null mount read write commit = absurd (commit handle offset count refl)
+asked_else xid _ null mount read write commit = refl
 
 -- want of memory is for a message that asks for something under its own number
 
@@ -75,16 +75,12 @@ asked_cond : (n : ℕ) (b : Bool) (x y : Asked) → IsAskedBy x n → IsAskedBy 
 asked_cond n true x y h k = h
 asked_cond n false x y h k = k
 
-by_stable : (xid : ℕ) (stable : Stable) (q : WriteArgs) → IsAskedBy (write_with xid stable q) xid
-by_stable xid Unstable q = refl
-by_stable xid DataSync q = refl
-by_stable xid FileSync q = refl
-
 asked_args : (xid : ℕ) (a : Args) → IsAskedBy (asked_with xid a) xid
 asked_args xid args.Null = refl
 asked_args xid args.MountNull = refl
 asked_args xid (args.Read handle offset count) = refl
-asked_args xid (args.Write handle offset count stable written) = by_stable xid stable _
+asked_args xid (args.Write handle offset count stable written) = refl
+asked_args xid (args.Commit handle offset count) = refl
 asked_args xid _ = refl
 
 asked_read : (xid : ℕ) (r : Result Args XdrFault) → IsAskedBy (asked_by_args xid r) xid
@@ -125,6 +121,10 @@ request_of_read : (conn xid x : ℕ) (a : ReadArgs) (file : Result ℕ ℕ) → 
 request_of_read conn xid x a (Ok file) h = (refl, h)
 request_of_read conn xid x a (Err status) h = (refl, h)
 
+request_of_commit : (conn xid x : ℕ) (a : CommitArgs) (file : Result ℕ ℕ) → xid ≡ x → IsRequestOf (judged_commit file conn xid a) conn x
+request_of_commit conn xid x a (Ok file) h = (refl, h)
+request_of_commit conn xid x a (Err status) h = (refl, h)
+
 request_cond : (conn x : ℕ) (b : Bool) (one other : Target) → IsRequestOf one conn x → IsRequestOf other conn x → IsRequestOf (cond b one other) conn x
 request_cond conn x true one other h k = h
 request_cond conn x false one other h k = k
@@ -138,6 +138,7 @@ request_of settings files conn asked.Close x h = absurd h
 request_of settings files conn (asked.Reply xid reply) x h = (refl, h)
 request_of settings files conn (asked.Read xid a) x h = request_of_read conn xid x a (handle_file settings.fsid files a.handle) h
 request_of settings files conn (asked.Write xid a) x h = request_of_write conn xid x a (write_file settings files a) h
+request_of settings files conn (asked.Commit xid a) x h = request_of_commit conn xid x a (handle_file settings.fsid files a.handle) h
 
 -- a message that asks for something is a call
 pub goes_on : (a : Asked) (x : ℕ) → IsAskedBy a x → is_close a ≡ false
@@ -145,3 +146,4 @@ goes_on asked.Close x h = absurd h
 goes_on (asked.Reply xid reply) x h = refl
 goes_on (asked.Read xid a) x h = refl
 goes_on (asked.Write xid a) x h = refl
+goes_on (asked.Commit xid a) x h = refl

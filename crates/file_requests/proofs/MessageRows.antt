@@ -7,11 +7,14 @@ use Rattle.xdr.specs.Items.{word, long}
 use Rattle.xdr.specs.Reading.{u32_at, u64_at, opaque_at, finish_at}
 use Rattle.rpc_msg.specs.Calls.{call_word_at, call_opaque_at, sender_of, system_sender, groups_at, words_at, call_body_at, call_of}
 use Rattle.rpc_msg.specs.Replies.{accepted_text, rpc_mismatch_text, denial_text}
-use Rattle.nfs_wire.specs.Arguments.{stable_at, read_at, write_at, nfs_arms, mount_arms, args_of}
+use Rattle.nfs_wire.specs.Arguments.{stable_at, read_at, write_at, commit_at, nfs_arms, mount_arms, args_of}
+use Rattle.gw_model.specs.declared.Stable.{Stable}
+use Rattle.gw_model.specs.declared.Stable.TheVariants.{Unstable, FileSync}
+use Rattle.file_requests.specs.declared.message.CommitArgs.{CommitArgs}
 use Rattle.file_requests.specs.declared.message.ReadArgs.{ReadArgs}
 use Rattle.file_requests.specs.declared.message.WriteArgs.{WriteArgs}
 use Rattle.file_requests.specs.declared.message.Asked.{Asked}
-use Rattle.file_requests.specs.declared.message.Asked.TheVariants.{Close, Reply, Read, Write}
+use Rattle.file_requests.specs.declared.message.Asked.TheVariants.{Close, Reply, Read, Write, Commit}
 use Rattle.gw_config.specs.Settings.{Settings, default_settings}
 use Rattle.file_requests.specs.Messages.{asked_of, handle_file, write_file}
 
@@ -20,7 +23,7 @@ words [] = []
 words (w ∷ ws) = word w ++ words ws
 
 abbrev Asks : List ℕ → Asked → Type 0
-unfolding word u32_at u64_at opaque_at finish_at call_word_at call_opaque_at sender_of system_sender groups_at words_at call_body_at call_of accepted_text rpc_mismatch_text denial_text stable_at read_at write_at nfs_arms mount_arms args_of
+unfolding word u32_at u64_at opaque_at finish_at call_word_at call_opaque_at sender_of system_sender groups_at words_at call_body_at call_of accepted_text rpc_mismatch_text denial_text stable_at read_at write_at commit_at nfs_arms mount_arms args_of
 Asks message asked = asked_of (words message) ≡ asked
 
 abbrev Says_words : ℕ → List ℕ → Asked
@@ -53,22 +56,29 @@ proc_unavail : Asks (4 ∷ 0 ∷ 2 ∷ 100003 ∷ 3 ∷ 22 ∷ 0 ∷ 0 ∷ 0 ∷
 unfolding Asks Says_words
 proc_unavail = refl
 
--- a WRITE of `a` at offset 1 to file 4, and with a word behind it
-abbrev write_a : List ℕ → List ℕ
-write_a rest = 5 ∷ 0 ∷ 2 ∷ 100003 ∷ 3 ∷ 7 ∷ 0 ∷ 0 ∷ 0 ∷ 0 ∷ 32 ∷ 0 ∷ 4 ∷ 0 ∷ 1 ∷ 0x21e0f297 ∷ 0x5a84e78c ∷ 0xec58787a ∷ 0xf28bde14 ∷ 0 ∷ 1 ∷ 1 ∷ 0 ∷ 1 ∷ 0x61000000 ∷ rest
+-- a WRITE of `a` at offset 1 to file 4, as durable as this, and with words behind it
+abbrev write_a : ℕ → List ℕ → List ℕ
+write_a how rest = 5 ∷ 0 ∷ 2 ∷ 100003 ∷ 3 ∷ 7 ∷ 0 ∷ 0 ∷ 0 ∷ 0 ∷ 32 ∷ 0 ∷ 4 ∷ 0 ∷ 1 ∷ 0x21e0f297 ∷ 0x5a84e78c ∷ 0xec58787a ∷ 0xf28bde14 ∷ 0 ∷ 1 ∷ 1 ∷ how ∷ 1 ∷ 0x61000000 ∷ rest
 
 abbrev handle_four : List ℕ
 unfolding word
 handle_four = words (0 ∷ 4 ∷ 0 ∷ 1 ∷ 0x21e0f297 ∷ 0x5a84e78c ∷ 0xec58787a ∷ 0xf28bde14 ∷ [])
 
-abbrev args_a : ℕ → WriteArgs
-args_a count = record { handle = handle_four; offset = 1; count = count; «data» = codes "a" }
+abbrev args_with : Stable → ℕ → WriteArgs
+args_with stable count = record { handle = handle_four; offset = 1; count = count; stable = stable; «data» = codes "a" }
 
-write_call : Asks (write_a []) (Write 5 (args_a 1))
+abbrev args_a : ℕ → WriteArgs
+args_a count = args_with Unstable count
+
+write_call : Asks (write_a 0 []) (Write 5 (args_a 1))
 unfolding Asks
 write_call = refl
 
-garbage_args : Asks (write_a (0 ∷ [])) (Says_words 5 (5 ∷ 1 ∷ 0 ∷ 0 ∷ 0 ∷ 4 ∷ []))
+stable_write_call : Asks (write_a 2 []) (Write 5 (args_with FileSync 1))
+unfolding Asks
+stable_write_call = refl
+
+garbage_args : Asks (write_a 0 (0 ∷ [])) (Says_words 5 (5 ∷ 1 ∷ 0 ∷ 0 ∷ 0 ∷ 4 ∷ []))
 unfolding Asks Says_words
 garbage_args = refl
 
@@ -86,6 +96,21 @@ read_call = refl
 read_garbage : Asks (read_five (0 ∷ [])) (Says_words 10 (10 ∷ 1 ∷ 0 ∷ 0 ∷ 0 ∷ 4 ∷ []))
 unfolding Asks Says_words
 read_garbage = refl
+
+-- a COMMIT of 5 bytes at offset 2^32 + 2 of file 4, and with a word behind it
+abbrev commit_five : List ℕ → List ℕ
+commit_five rest = 12 ∷ 0 ∷ 2 ∷ 100003 ∷ 3 ∷ 21 ∷ 0 ∷ 0 ∷ 0 ∷ 0 ∷ 32 ∷ 0 ∷ 4 ∷ 0 ∷ 1 ∷ 0x21e0f297 ∷ 0x5a84e78c ∷ 0xec58787a ∷ 0xf28bde14 ∷ 1 ∷ 2 ∷ 5 ∷ rest
+
+abbrev args_commit : CommitArgs
+args_commit = record { handle = handle_four; offset = 0x100000002; count = 5 }
+
+commit_call : Asks (commit_five []) (Commit 12 args_commit)
+unfolding Asks
+commit_call = refl
+
+commit_garbage : Asks (commit_five (0 ∷ [])) (Says_words 12 (12 ∷ 1 ∷ 0 ∷ 0 ∷ 0 ∷ 4 ∷ []))
+unfolding Asks Says_words
+commit_garbage = refl
 
 -- MOUNT has no procedure 6 as NFS has
 no_read_of_mount : Asks (11 ∷ 0 ∷ 2 ∷ 100005 ∷ 3 ∷ 6 ∷ 0 ∷ 0 ∷ 0 ∷ 0 ∷ []) (Says_words 11 (11 ∷ 1 ∷ 0 ∷ 0 ∷ 0 ∷ 3 ∷ []))

@@ -26,3 +26,4 @@ IsAskedBy asked.Close n = ⊥
 IsAskedBy (asked.Reply xid reply) n = xid ≡ n
 IsAskedBy (asked.Read xid args) n = xid ≡ n
 IsAskedBy (asked.Write xid args) n = xid ≡ n
+IsAskedBy (asked.Commit xid args) n = xid ≡ n

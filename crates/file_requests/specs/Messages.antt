@@ -1,8 +1,6 @@
--- What a whole message asks for (RFC 5531 section 9; RFC 1813 sections 2.5, 2.6, 3.3.0, 3.3.6, 3.3.7, 5.2.0).
+-- What a whole message asks for (RFC 5531 section 9; RFC 1813 sections 2.5, 2.6, 3.3.0, 3.3.6, 3.3.7, 3.3.21, 5.2.0).
 use Rattle.std.specs.Prelude.{ℕ, ◌+◌, ◌≤◌, ◌==◌, ◌||◌, ◌&&◌, bytes_eq, nat_le, nat_lt, not, Bool, true, false, if◌then◌else◌, List, ◌++◌, length, take, drop, Result, Ok, Err}
 use Rattle.std.specs.Int.{w64, from_be_bytes}
-use Rattle.gw_model.specs.declared.Stable.{Stable}
-use Rattle.gw_model.specs.declared.Stable.TheVariants.{Unstable}
 use Rattle.md5.specs.Md5.{md5}
 use Rattle.xdr.specs.declared.fault.XdrFault.{XdrFault}
 use Rattle.xdr.specs.Items.{word}
@@ -20,7 +18,7 @@ use Rattle.file_requests.specs.declared.message.Asked.{Asked}
 use Rattle.file_requests.specs.declared.message.Asked.TheVariants as asked
 use Rattle.rpc_msg.specs.Numbers.{success, prog_unavail, prog_mismatch, proc_unavail, garbage_args, auth_bad_cred, auth_rejected_cred}
 use Rattle.nfs_wire.specs.Programs.{nfs_program, mount_program, nfs_version}
-use Rattle.file_requests.specs.declared.message.TheConstants.{NULL, READ, WRITE}
+use Rattle.file_requests.specs.declared.message.TheConstants.{NULL, READ, WRITE, COMMIT}
 
 -- an accepted reply without results
 abbrev pub reply_to : ℕ → ℕ → Asked
@@ -30,26 +28,22 @@ reply_to xid stat = asked.Reply xid (accepted_text xid stat)
 abbrev pub mismatch_text : ℕ → List ℕ
 mismatch_text xid = accepted_text xid prog_mismatch ++ word nfs_version ++ word nfs_version
 
--- a WRITE has to be UNSTABLE
-abbrev pub write_with : ℕ → Stable → WriteArgs → Asked
-write_with xid Unstable q = asked.Write xid q
-write_with xid _ q = reply_to xid proc_unavail
-
 -- the arguments of a procedure that is served
 abbrev pub asked_with : ℕ → Args → Asked
 asked_with xid args.Null = reply_to xid success
 asked_with xid args.MountNull = reply_to xid success
 asked_with xid (args.Read handle offset count) = asked.Read xid (record { handle = handle; offset = offset; count = count })
-asked_with xid (args.Write handle offset count stable bytes) = write_with xid stable (record { handle = handle; offset = offset; count = count; «data» = bytes })
+asked_with xid (args.Write handle offset count stable bytes) = asked.Write xid (record { handle = handle; offset = offset; count = count; stable = stable; «data» = bytes })
+asked_with xid (args.Commit handle offset count) = asked.Commit xid (record { handle = handle; offset = offset; count = count })
 asked_with xid _ = reply_to xid proc_unavail
 
 abbrev pub asked_by_args : ℕ → Result Args XdrFault → Asked
 asked_by_args xid (Ok a) = asked_with xid a
 asked_by_args xid (Err fault) = reply_to xid garbage_args
 
--- the procedures that are served: NULL of both programs, READ and WRITE
+-- the procedures that are served: NULL of both programs, READ, WRITE and COMMIT
 abbrev pub is_served : ℕ → ℕ → Bool
-is_served prog proc_no = proc_no == NULL || prog == nfs_program && (proc_no == READ || proc_no == WRITE)
+is_served prog proc_no = proc_no == NULL || prog == nfs_program && (proc_no == READ || proc_no == WRITE || proc_no == COMMIT)
 
 -- a call: its program, version and procedure are judged in this order, and then its arguments
 abbrev pub asked_by_call : CallText → Asked
@@ -81,6 +75,7 @@ IsFew asked.Close = Unit {0}
 IsFew (asked.Reply xid reply) = Unit {0}
 IsFew (asked.Read xid args) = Unit {0}
 IsFew (asked.Write xid args) = length args.data ≤ 1048576
+IsFew (asked.Commit xid args) = Unit {0}
 
 -- whether bytes are a handle of this gateway: the last 16 of its 32 bytes are the digest of the first 16
 abbrev pub is_handle : List ℕ → Bool

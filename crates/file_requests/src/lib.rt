@@ -1,4 +1,4 @@
-//! What a whole message of a connection asks for: a reply at once, a READ or a WRITE of a file, or the end of its connection.
+//! What a whole message of a connection asks for: a reply at once, a READ, a WRITE or a COMMIT of a file, or the end of its connection.
 #![tactic(auto)]
 
 mod message;

@@ -3,7 +3,7 @@ ghost use Rattle.std.specs.Prelude.{◌≡◌, ◌≢◌, ◌<◌, ◌^◌, ℕ,
 ghost use Rattle.rpc_msg.specs.declared.fault.CallFault.{CallFault};
 ghost use Rattle.rpc_msg.specs.Views.{call_view};
 ghost use Rattle.file_requests.specs.declared.message.Asked.{Asked};
-ghost use Rattle.file_requests.specs.Messages.{is_served, reply_to, mismatch_text, write_with, asked_with, asked_by_call, asked_by_fault, asked_of, IsFew};
+ghost use Rattle.file_requests.specs.Messages.{is_served, reply_to, mismatch_text, asked_with, asked_by_call, asked_by_fault, asked_of, IsFew};
 ghost use Rattle.gw_config.specs.Seen.{settings_in};
 ghost use Rattle.file_requests.specs.Messages.{counted_file, numbered_file, handle_file, write_file, is_file};
 ghost use Rattle.file_requests.specs.MessageFaults.{IsAskedOr, HasXid, IsAskedBy};
@@ -31,7 +31,7 @@ pub struct ReadArgs {
     pub count: u32,
 }
 
-/// The arguments of an UNSTABLE WRITE (RFC 1813 section 3.3.7).
+/// The arguments of a WRITE (RFC 1813 section 3.3.7).
 #[derive(Drop)]
 pub struct WriteArgs {
     /// At most 64 bytes, which may be no handle.
@@ -39,8 +39,20 @@ pub struct WriteArgs {
     pub offset: u64,
     /// How many bytes the data is said to have.
     pub count: u32,
+    /// How far they are to be durable before the WRITE is answered.
+    pub stable: Stable,
     /// At most 1,048,576 bytes.
     pub data: Bytes,
+}
+
+/// The arguments of a COMMIT (RFC 1813 section 3.3.21).
+#[derive(Drop)]
+pub struct CommitArgs {
+    /// At most 64 bytes, which may be no handle.
+    pub handle: Bytes,
+    pub offset: u64,
+    /// How many bytes are to be durable; where it is 0, all.
+    pub count: u32,
 }
 
 /// What a message asks for.
@@ -52,6 +64,7 @@ pub enum Asked {
     Reply { xid: u32, reply: Bytes },
     Read { xid: u32, args: ReadArgs },
     Write { xid: u32, args: WriteArgs },
+    Commit { xid: u32, args: CommitArgs },
 }
 
 /// Want of memory for a request whose xid was read.
@@ -66,6 +79,8 @@ const NULL: u32 = 0;
 const READ: u32 = 6;
 
 const WRITE: u32 = 7;
+
+const COMMIT: u32 = 21;
 
 /// What a message asks for. Fails only for want of memory, and only for a message that asks for something under its own
 /// number.
@@ -134,7 +149,8 @@ fn version_reply(alloc: Global, xid: u32) -> Result<Asked, Refused>
 fn is_served(prog: u32, proc_no: u32) -> bool
     ensures { result ≡ is_served prog proc_no }
 {
-    proc_no == NULL || prog == NFS_PROGRAM && (proc_no == READ || proc_no == WRITE)
+    proc_no == NULL
+        || prog == NFS_PROGRAM && (proc_no == READ || proc_no == WRITE || proc_no == COMMIT)
 }
 
 fn call_asked(alloc: Global, call: Call) -> Result<Asked, Refused>
@@ -186,21 +202,25 @@ fn args_asked(alloc: Global, xid: u32, args: Args) -> Result<Asked, Refused>
                 handle,
                 offset,
                 count,
+                stable,
                 data,
             };
-            write_asked(alloc, xid, stable, args)
+            Ok(Asked::Write { xid, args })
+        }
+        Args::Commit {
+            handle,
+            offset,
+            count,
+        } => {
+            let args = CommitArgs {
+                handle,
+                offset,
+                count,
+            };
+            Ok(Asked::Commit { xid, args })
         }
         _ => status_reply(alloc, xid, PROC_UNAVAIL),
     }
-}
-
-fn write_asked(alloc: Global, xid: u32, stable: Stable, args: WriteArgs) -> Result<Asked, Refused>
-    ensures { IsAskedOr result xid (write_with xid stable args) }
-{
-    if stable != Stable::Unstable {
-        return status_reply(alloc, xid, PROC_UNAVAIL);
-    }
-    Ok(Asked::Write { xid, args })
 }
 
 // Whether a file is in the tree, by how many were made: 4, 5, ..

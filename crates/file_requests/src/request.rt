@@ -9,14 +9,16 @@ ghost use Rattle.gw_config.specs.Seen.{settings_in};
 ghost use Rattle.file_requests.specs.Messages.{is_file};
 ghost use Rattle.file_requests.specs.declared.message.Asked.TheVariants as asked;
 
-use crate::message::{Asked, ReadArgs, Refused, WriteArgs, handle_file, read_message, write_file};
+use crate::message::{
+    Asked, CommitArgs, ReadArgs, Refused, WriteArgs, handle_file, read_message, write_file,
+};
 use bytes::Bytes;
-use file_calls::{ReadCall, WriteCall, body_reply};
+use file_calls::{CommitCall, ReadCall, WriteCall, body_reply};
 use gw_config::Config;
 use gw_model::end_of;
 use gw_model::status::{NFS3_OK, NFS3ERR_FBIG, NFS3ERR_JUKEBOX};
 use std::alloc::Global;
-use tickets::Body;
+use tickets::{Body, stable_how};
 
 /// What a message asks for.
 #[derive(Debug, Drop)]
@@ -29,6 +31,8 @@ pub enum Request {
     Read(u64, ReadCall),
     /// A WRITE of a file in the tree.
     Write(u64, WriteCall),
+    /// A COMMIT of a file in the tree.
+    Commit(u64, CommitCall),
 }
 
 // A request that is answered at once.
@@ -48,8 +52,8 @@ fn answer(alloc: Global, xid: u32, body: &Body) -> Result<Request, Refused>
     }
 }
 
-// The body of a WRITE's answer (RFC 1813 section 3.3.7).
-fn write_body(status: u32) -> Body
+// The body of the answer to a WRITE that is refused (RFC 1813 section 3.3.7).
+fn refused_write(status: u32) -> Body
     ensures { result ≡ WriteBody status 0 0 }
 {
     Body::Write {
@@ -66,7 +70,7 @@ pub fn busy_request(alloc: Global, xid: u32) -> Result<Request, Refused>
     ensures goes_on { IfOk result (λ r. is_ending r ≡ false) }
     ensures refused { IfErr result (λ e. e.xid ≡ xid) }
 {
-    answer(alloc, xid, &write_body(NFS3ERR_JUKEBOX))
+    answer(alloc, xid, &refused_write(NFS3ERR_JUKEBOX))
 }
 
 // A WRITE that isn't refused for its file or its count.
@@ -78,14 +82,20 @@ fn write_request(alloc: Global, file: u64, xid: u32, args: WriteArgs) -> Result<
     ensures refused { IfErr result (λ e. (conn : ℕ) → IsRequestOf (write_target file conn xid args) conn e.xid) }
 {
     if end_of(args.offset, args.data.len() as u32).is_none() {
-        return answer(alloc, xid, &write_body(NFS3ERR_FBIG));
+        return answer(alloc, xid, &refused_write(NFS3ERR_FBIG));
     }
     if args.data.is_empty() {
-        return answer(alloc, xid, &write_body(NFS3_OK));
+        let body = Body::Write {
+            status: NFS3_OK,
+            count: 0,
+            committed: stable_how(args.stable),
+        };
+        return answer(alloc, xid, &body);
     }
     let call = WriteCall {
         xid,
         offset: args.offset,
+        stable: args.stable,
         content: args.data,
     };
     Ok(Request::Write(file, call))
@@ -105,7 +115,7 @@ fn judged_write_request(
     ensures refused { IfErr result (λ e. (conn : ℕ) → IsRequestOf (target_by (settings_in config.now) files conn (asked.Write xid args)) conn e.xid) }
 {
     match write_file(config, files, &args) {
-        Err(status) => answer(alloc, xid, &write_body(status)),
+        Err(status) => answer(alloc, xid, &refused_write(status)),
         Ok(file) => write_request(alloc, file, xid, args),
     }
 }
@@ -142,6 +152,31 @@ fn judged_read_request(
     }
 }
 
+fn judged_commit_request(
+    alloc: Global,
+    config: &Config,
+    files: u64,
+    xid: u32,
+    args: CommitArgs,
+) -> Result<Request, Refused>
+    ensures target { IfOk result (λ r. (conn : ℕ) → request_target conn r ≡ target_by (settings_in config.now) files conn (asked.Commit xid args)) }
+    ensures fits { IfOk result (λ r. IsFitting files r) }
+    ensures goes_on { IfOk result (λ r. is_ending r ≡ false) }
+    ensures refused { IfErr result (λ e. (conn : ℕ) → IsRequestOf (target_by (settings_in config.now) files conn (asked.Commit xid args)) conn e.xid) }
+{
+    match handle_file(config.fsid, files, args.handle.as_slice()) {
+        Err(status) => answer(alloc, xid, &Body::Commit { status }),
+        Ok(file) => {
+            let call = CommitCall {
+                xid,
+                offset: args.offset,
+                count: args.count,
+            };
+            Ok(Request::Commit(file, call))
+        }
+    }
+}
+
 /// What a message asks for, by the settings and by how many files are in the tree. Want of memory gives the number of the
 /// request for which it was refused.
 pub fn read_request(
@@ -161,5 +196,6 @@ pub fn read_request(
         Asked::Reply { xid, reply } => Ok(Request::Reply { xid, reply }),
         Asked::Read { xid, args } => judged_read_request(alloc, config, files, xid, args),
         Asked::Write { xid, args } => judged_write_request(alloc, config, files, xid, args),
+        Asked::Commit { xid, args } => judged_commit_request(alloc, config, files, xid, args),
     }
 }

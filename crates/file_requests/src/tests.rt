@@ -1,7 +1,7 @@
-// Messages that were made by hand from RFC 5531 section 9 and RFC 1813 sections 3.3.6, 3.3.7, 5.1 and 5.2.
+// Messages that were made by hand from RFC 5531 section 9 and RFC 1813 sections 3.3.6, 3.3.7, 3.3.21, 5.1 and 5.2.
 use crate::{Request, read_request};
 use bytes::Bytes;
-use file_calls::ReadCall;
+use file_calls::{CommitCall, ReadCall};
 use gw_config::Config;
 use std::alloc::{AllocError, Global};
 use std::test::Fail;
@@ -17,6 +17,32 @@ const READ_CALL: [u32; 22] = [
     100_003,
     3,
     6,
+    0,
+    0,
+    0,
+    0,
+    32,
+    0,
+    4,
+    0,
+    1,
+    0x21e0_f297,
+    0x5a84_e78c,
+    0xec58_787a,
+    0xf28b_de14,
+    1,
+    2,
+    5,
+];
+
+// A COMMIT of 5 bytes at offset 2^32 + 2 of file 4.
+const COMMIT_CALL: [u32; 22] = [
+    9,
+    0,
+    2,
+    100_003,
+    3,
+    21,
     0,
     0,
     0,
@@ -115,6 +141,23 @@ fn a_read_is_of_its_file(rt: HostRuntime) -> Result<(), Fail> {
         return Ok(());
     };
     let want = ReadCall {
+        xid: 9,
+        offset: 0x1_0000_0002,
+        count: 5,
+    };
+    assert_eq!(rt; file, 4);
+    assert_eq!(rt; call, want);
+    Ok(())
+}
+
+#[test]
+fn a_commit_is_of_its_file(rt: HostRuntime) -> Result<(), Fail> {
+    let alloc = rt.alloc();
+    let Request::Commit(file, call) = request_of(alloc, &COMMIT_CALL)? else {
+        assert!(rt; false);
+        return Ok(());
+    };
+    let want = CommitCall {
         xid: 9,
         offset: 0x1_0000_0002,
         count: 5,

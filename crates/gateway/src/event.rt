@@ -42,6 +42,8 @@ pub enum Event<'a> {
     Turn(u64),
     /// An open file hears of its writer, and sends what is ready.
     Pump(u64),
+    /// What an open file has stored is made durable.
+    Sync(u64),
     /// A connection hangs up: none of its requests is answered any more.
     HangUp(u32),
 }

@@ -11,7 +11,7 @@ use Rattle.gw_model.specs.Ending.{Ended, history_of}
 use Rattle.gw_config.specs.Settings.{Settings}
 use Rattle.tickets.specs.Desk.{DeskState, new_desk}
 use Rattle.file_cell.specs.History.{history_text}
-use Rattle.file_calls.specs.Acts.{CreateFile, BeginEvent, WriteFile, CloseConnection, TurnFile, PumpFile}
+use Rattle.file_calls.specs.Acts.{CreateFile, BeginEvent, WriteFile, CloseConnection, TurnFile, PumpFile, SyncFile}
 use Rattle.file_calls.specs.Acts as act
 use Rattle.file_calls.specs.Part.{Part, PartResult, next_part, part_body}
 use Rattle.file_requests.specs.Targets.{Target, OnFile, OnDesk, OnNothing, reply_target, message_target}
@@ -32,6 +32,8 @@ pub data Operation : Type 0 where
   TurnOf : (file : ℕ) → Operation
   -- an event: the admission side of a file hears of its writer and sends what is ready
   PumpOf : (file : ℕ) → Operation
+  -- an event: the writer of a file syncs
+  SyncOf : (file : ℕ) → Operation
 
 pub record World : Type 0 where
   -- the names in the root with the numbers of their files, by rising name
@@ -121,6 +123,7 @@ target_by_state settings names opens (Break conn) = OnDesk (CloseConnection conn
 target_by_state settings names opens (HangUp conn) = OnDesk (act.HangUp conn)
 target_by_state settings names opens (TurnOf file) = OnFile file TurnFile
 target_by_state settings names opens (PumpOf file) = OnFile file PumpFile
+target_by_state settings names opens (SyncOf file) = OnFile file SyncFile
 
 abbrev pub target_in : World → Operation → Target
 target_in w operation = target_by_state w.settings w.names w.opens operation

@@ -7,13 +7,13 @@ ghost use Rattle.gw_model.specs.declared.object.ObjectId.{ObjectId};
 ghost use Rattle.append_store.specs.State.{ObjectState};
 ghost use Rattle.gw_config.specs.Ranges.{AreInRange};
 ghost use Rattle.gw_config.specs.Seen.{settings_in};
-ghost use Rattle.file_calls.specs.Acts.{WriteFile, ReadFile, TurnFile, PumpFile, Reply, CloseConnection};
+ghost use Rattle.file_calls.specs.Acts.{WriteFile, ReadFile, CommitFile, TurnFile, PumpFile, SyncFile, Reply, CloseConnection};
 ghost use Rattle.nfs_procs.specs.Closing.{GivesAllBack, WritesHistories};
 ghost use Rattle.file_requests.specs.Messages.{is_file as is_file_of};
 ghost use Rattle.file_calls.specs.Outside.{Store, body_id, scene, store_counts, without_outcomes, IsActCut, IsBodyHome, IsText, OthersStay, StepsTo};
 ghost use Rattle.file_calls.specs.PartSteps.{SameFile};
 ghost use Rattle.file_requests.specs.Targets.{OnDesk, OnFile, IsFitting, IsRequestOf, ends_connection, is_ending, request_target};
-ghost use Rattle.nfs_procs.specs.World.{Operation, CreateNamed, Serve, Break, HangUp as HangUpOf, TurnOf, PumpOf, entry_at, has_name, may_open as may_open_of};
+ghost use Rattle.nfs_procs.specs.World.{Operation, CreateNamed, Serve, Break, HangUp as HangUpOf, TurnOf, PumpOf, SyncOf, entry_at, has_name, may_open as may_open_of};
 ghost use Rattle.nfs_procs.specs.World.{opening_target, target_by_state, names_after};
 ghost use Rattle.nfs_procs.specs.Contexts.{ProgramState, StoreState, initial_state, file_count as file_count_of, state_at, scene_at, bodies_at, store_state};
 ghost use Rattle.nfs_procs.specs.Contexts.{world_scene, world_scene_of, AreBodiesPlaced, AreBodiesSafe, ChangesPart, HasTarget, IsContextKept};
@@ -23,9 +23,9 @@ use crate::served::Served;
 use append_store::Cluster;
 use bytes::Bytes;
 use file_calls::{
-    FirstWrite, ReadCall, RequestTracker, StepResult, WriteCall, close_cell, create_body,
-    first_write, idle_event, pump_cell, read_cell, read_closed, refuse_write, turn_cell,
-    write_cell,
+    CommitCall, FirstWrite, ReadCall, RequestTracker, StepResult, WriteCall, close_cell,
+    commit_cell, commit_closed, create_body, first_write, idle_event, pump_cell, read_cell,
+    read_closed, refuse_write, sync_cell, turn_cell, write_cell,
 };
 use file_cell::FileCell;
 use file_requests::{Refused, Request, busy_request, read_request};
@@ -182,6 +182,23 @@ impl<C: Cluster> World<C> {
         }
     }
 
+    fn sync_part(&mut self, file: u64) -> Result<String, AllocError>
+        requires few { self.old.tracker.noted.event < 2 ^ 64 - 1 }
+        ensures ok { (s : Store) → IfOk result (StepsTo C.File.tells SyncFile
+            (scene (state_at file self.old) s) (scene (state_at file self.new) s)) }
+        ensures err { (s : Store) → OnErr result (IsActCut C.File.tells SyncFile
+            (scene (state_at file self.old) s) (scene (state_at file self.new) s)) }
+        ensures part { ChangesPart file self.old self.new }
+        ensures same { SameFile (entry_at file self.old.cells) (entry_at file self.new.cells) }
+        ensures event { self.new.tracker.noted.event ≡ self.old.tracker.noted.event + 1 }
+        ensures settings { self.new.tracker.settings ≡ self.old.tracker.settings }
+    {
+        match self.cells.get_mut(&file) {
+            Some(cell) => sync_cell(cell, &mut self.tracker),
+            None => Ok(idle_event(&mut self.tracker)),
+        }
+    }
+
     /// An event of a file: its writer does the first job. Takes memory.
     pub fn turn(&mut self, file: u64) -> Result<String, AllocError>
         requires few { self.old.tracker.noted.event < 2 ^ 64 - 1 }
@@ -212,6 +229,22 @@ impl<C: Cluster> World<C> {
         ensures settings { self.new.tracker.settings ≡ self.old.tracker.settings }
     {
         self.pump_part(file)
+    }
+
+    /// An event of a file: its writer syncs, and those that waited for that are answered. Takes memory.
+    pub fn sync(&mut self, file: u64) -> Result<String, AllocError>
+        requires few { self.old.tracker.noted.event < 2 ^ 64 - 1 }
+        ensures ok { (s : StoreState) → IfOk result (λ text. IsDone C.File.tells (SyncOf file)
+            (world_scene self.old s) (world_scene self.new s) (string_bytes text) false) }
+        ensures err { (s : StoreState) → OnErr result (IsCutOff C.File.tells (SyncOf file)
+            (world_scene self.old s) (world_scene self.new s)) }
+        ensures placed { (at : ObjectId → ObjectState) → AreBodiesPlaced C.File.tells (file_count_of self.old) at self.old.cells
+            → AreBodiesPlaced C.File.tells (file_count_of self.new) at self.new.cells }
+        ensures names { self.new.names ≡ self.old.names }
+        ensures event { self.new.tracker.noted.event ≡ self.old.tracker.noted.event + 1 }
+        ensures settings { self.new.tracker.settings ≡ self.old.tracker.settings }
+    {
+        self.sync_part(file)
     }
 
     /// An event: a connection hangs up. None of its requests is answered any more, and nothing is written.
@@ -439,6 +472,43 @@ impl<C: Cluster> World<C> {
         self.read_part(conn, file, call, cluster)
     }
 
+    fn commit_part(
+        &mut self,
+        conn: u32,
+        file: u64,
+        call: CommitCall,
+    ) -> Result<String, AllocError>
+        ensures ok { (s : Store) → IfOk result (StepsTo C.File.tells (CommitFile conn call)
+            (scene (state_at file self.old) s) (scene (state_at file self.new) s)) }
+        ensures err { (s : Store) → OnErr result (IsActCut C.File.tells (CommitFile conn call)
+            (scene (state_at file self.old) s) (scene (state_at file self.new) s)) }
+        ensures part { ChangesPart file self.old self.new }
+        ensures same { SameFile (entry_at file self.old.cells) (entry_at file self.new.cells) }
+        ensures event { self.new.tracker.noted.event ≡ self.old.tracker.noted.event }
+        ensures settings { self.new.tracker.settings ≡ self.old.tracker.settings }
+    {
+        match self.cells.get_mut(&file) {
+            Some(cell) => commit_cell(conn, call, cell, &mut self.tracker),
+            None => commit_closed(conn, call, &mut self.tracker),
+        }
+    }
+
+    // A COMMIT of a file in the tree.
+    fn commit(&mut self, conn: u32, file: u64, call: CommitCall) -> Result<String, AllocError>
+        ensures ok { (operation : Operation) → HasTarget self.old operation (OnFile file (CommitFile conn call)) → (s : StoreState)
+            → IfOk result (λ text. IsDone C.File.tells operation
+            (world_scene self.old s) (world_scene self.new s) (string_bytes text) false) }
+        ensures err { (operation : Operation) → HasTarget self.old operation (OnFile file (CommitFile conn call)) → (s : StoreState)
+            → OnErr result (IsCutOff C.File.tells operation (world_scene self.old s) (world_scene self.new s)) }
+        ensures placed { (at : ObjectId → ObjectState) → AreBodiesPlaced C.File.tells (file_count_of self.old) at self.old.cells
+            → AreBodiesPlaced C.File.tells (file_count_of self.new) at self.new.cells }
+        ensures names { self.new.names ≡ self.old.names }
+        ensures event { self.new.tracker.noted.event ≡ self.old.tracker.noted.event }
+        ensures settings { self.new.tracker.settings ≡ self.old.tracker.settings }
+    {
+        self.commit_part(conn, file, call)
+    }
+
     // Does what a request asks for.
     fn serve_request(
         &mut self,
@@ -477,6 +547,10 @@ impl<C: Cluster> World<C> {
             }
             Request::Write(file, call) => {
                 let text = self.write(conn, file, call, cluster)?;
+                Ok(Served { text, ended: false })
+            }
+            Request::Commit(file, call) => {
+                let text = self.commit(conn, file, call)?;
                 Ok(Served { text, ended: false })
             }
         }

@@ -4,7 +4,7 @@ ghost use Rattle.std.specs.List.{list_all};
 ghost use Rattle.transcript.specs.Fields.{hex_bytes};
 ghost use Rattle.replay.specs.Grammar.{LinesBefore, IsLine, first_line, is_hung_up, in_name, lines_after};
 ghost use Rattle.replay.specs.Grammar.{is_name as is_name_text, file_line as file_line_of, bytes_line, piece_line as piece_line_of};
-ghost use Rattle.replay.specs.Grammar.{turn_line as turn_line_of, pump_line as pump_line_of, hangup_line as hangup_line_of, grammar_line as line_of_text};
+ghost use Rattle.replay.specs.Grammar.{turn_line as turn_line_of, pump_line as pump_line_of, sync_line as sync_line_of, hangup_line as hangup_line_of, grammar_line as line_of_text};
 ghost use Rattle.replay.specs.declared.grammar.Line.{Line as LineTerm};
 
 use gateway::{Event, Piece};
@@ -163,6 +163,15 @@ fn pump_line<'a>(file: Option<u64>) -> Option<Line<'a>>
     }
 }
 
+fn sync_line<'a>(file: Option<u64>) -> Option<Line<'a>>
+    ensures { result ≡ sync_line_of file }
+{
+    match file {
+        Some(file) => Some(Line::Go(Event::Sync(file))),
+        None => None,
+    }
+}
+
 fn hangup_line<'a>(before: &GrammarState, conn: Option<u32>) -> Option<Line<'a>>
     ensures { result ≡ hangup_line_of before.now conn }
 {
@@ -188,6 +197,8 @@ pub fn line_of<'a>(
         Ok(turn_line(parse_u64(&text[5..])))
     } else if text.starts_with(b"pump ") {
         Ok(pump_line(parse_u64(&text[5..])))
+    } else if text.starts_with(b"sync ") {
+        Ok(sync_line(parse_u64(&text[5..])))
     } else if text.starts_with(b"file ") {
         Ok(file_line(before, &text[5..]))
     } else if text.starts_with(b"hangup ") {
@@ -285,6 +296,12 @@ mod tests {
         );
         assert!(rt;
             matches!(
+                line_of(&before, b"sync 4", &mut room)?,
+                Some(Line::Go(Event::Sync(4)))
+            )
+        );
+        assert!(rt;
+            matches!(
                 line_of(&before, b"hangup 4294967295", &mut room)?,
                 Some(Line::Go(Event::HangUp(4_294_967_295)))
             )
@@ -305,6 +322,7 @@ mod tests {
         assert!(rt; is_refused(alloc, b"turn 18446744073709551616")?);
         assert!(rt; is_refused(alloc, b"pump 04")?);
         assert!(rt; is_refused(alloc, b"pump")?);
+        assert!(rt; is_refused(alloc, b"sync 04")?);
         assert!(rt; is_refused(alloc, b"hangup 4294967296")?);
         assert!(rt; is_refused(alloc, b"hangup")?);
         assert!(rt; is_refused(alloc, b"end ")?);

@@ -1,9 +1,8 @@
 use Rattle.std.proofs.Common.{◌≡◌, false, Ok, Err, sym, ◌∙◌, ap, subst}
 use Rattle.std.specs.Prelude.{◌==◌, if◌then◌else◌}
 use Rattle.gw_model.specs.File.{Wrote, NotWritten}
-use Rattle.gw_model.specs.declared.Stable.TheVariants.{Unstable}
 use Rattle.tickets.specs.declared.answer.Body.{Body}
-use Rattle.tickets.specs.Answers.{body_of}
+use Rattle.tickets.specs.Answers.{body_of, level_of}
 use Rattle.gw_config.specs.Seen.{settings_in}
 use Rattle.file_requests.specs.Messages.{write_file}
 use Rattle.file_requests.specs.Targets.{judged_write, reply_target}
@@ -17,8 +16,8 @@ returns-in-Err-clause-target c =
     let refused : (c.in-Err.status == 0) ≡ false = subst (IsJudged c.args.files) (sym is) (judged_write_file (settings_in c.args.config.now) c.args.files c.args.args) in
     with_ok c.answer.result (λ r t conn.
     t conn
-    ∙ ap (λ (b : Body). reply_target conn c.args.xid (body_of b)) c.write_body.ensures
-    ∙ ap (λ b. reply_target conn c.args.xid (if b then Wrote 0 Unstable else NotWritten c.in-Err.status)) refused
+    ∙ ap (λ (b : Body). reply_target conn c.args.xid (body_of b)) c.refused_write.ensures
+    ∙ ap (λ b. reply_target conn c.args.xid (if b then Wrote 0 (level_of 0) else NotWritten c.in-Err.status)) refused
     ∙ ap (λ r. judged_write r conn c.args.xid c.args.args) is) c.answer.ensures.target
 
 pub returns-in-Ok-clause-fits : goal.returns-in-Ok-clause-fits

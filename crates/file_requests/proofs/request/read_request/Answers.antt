@@ -54,3 +54,18 @@ pub returns-in-Write-clause-goes_on : goal.returns-in-Write-clause-goes_on
 returns-in-Write-clause-goes_on c =
     let is : asked.Write c.in-Write.xid c.in-Write.args ≡ asked_of c.args.message = sym c.in-Write.is ∙ c.in_ok-read_message.ensures.asked in
     always_err c.judged_write_request.result (ap is_close (sym is))
+
+pub returns-in-Commit-clause-refused : goal.returns-in-Commit-clause-refused
+returns-in-Commit-clause-refused c =
+    let is : asked.Commit c.in-Commit.xid c.in-Commit.args ≡ asked_of c.args.message = sym c.in-Commit.is ∙ c.in_ok-read_message.ensures.asked in
+    subst (λ (a : Asked). IfErr c.judged_commit_request.result (λ (e : Refused). (conn : ℕ) → IsRequestOf (target_by (settings_in c.args.config.now) c.args.files conn a) conn e.xid)) is c.judged_commit_request.ensures.refused
+
+pub returns-in-Commit-clause-ending : goal.returns-in-Commit-clause-ending
+returns-in-Commit-clause-ending c =
+    let is : asked.Commit c.in-Commit.xid c.in-Commit.args ≡ asked_of c.args.message = sym c.in-Commit.is ∙ c.in_ok-read_message.ensures.asked in
+    with_ok c.judged_commit_request.result (λ r on. on ∙ ap is_close is) c.judged_commit_request.ensures.goes_on
+
+pub returns-in-Commit-clause-goes_on : goal.returns-in-Commit-clause-goes_on
+returns-in-Commit-clause-goes_on c =
+    let is : asked.Commit c.in-Commit.xid c.in-Commit.args ≡ asked_of c.args.message = sym c.in-Commit.is ∙ c.in_ok-read_message.ensures.asked in
+    always_err c.judged_commit_request.result (ap is_close (sym is))

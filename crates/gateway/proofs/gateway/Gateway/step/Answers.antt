@@ -1,5 +1,5 @@
 use Rattle.nfs_procs.specs.Contexts.{store_state, world_scene}
-use Rattle.gateway.proofs.GatewayEvents.{made_stepped, received_stepped, turn_stepped, pump_stepped, hung_up_stepped}
+use Rattle.gateway.proofs.GatewayEvents.{made_stepped, received_stepped, turn_stepped, pump_stepped, sync_stepped, hung_up_stepped}
 use Rattle.nfs_procs.proofs.ContextBodies.{all_safe}
 use Rattle.gateway.proofs.gateway.Gateway.step.Goals as goal
 
@@ -30,6 +30,13 @@ returns-in-Pump-clause-step g c =
     (pump_stepped g.C.File.AppendFile.tells c.pump.result c.step_result-in-Pump.result _ (world_scene c.self-in-Pump.inside.world s) (world_scene c.pump.new.self s) c.step_result-in-Pump.ensures.ok c.step_result-in-Pump.ensures.err
     c.in-Pump.file (c.pump.ensures.ok s) (c.pump.ensures.err s))
 
+pub returns-in-Sync-clause-step : goal.returns-in-Sync-clause-step
+returns-in-Sync-clause-step g c =
+    let s = store_state g.C.Cluster c.args.cluster.now in
+    rw (c.in-Sync.is, ← c.self-in-Sync.view_is)
+    (sync_stepped g.C.File.AppendFile.tells c.sync.result c.step_result-in-Sync.result _ (world_scene c.self-in-Sync.inside.world s) (world_scene c.sync.new.self s) c.step_result-in-Sync.ensures.ok c.step_result-in-Sync.ensures.err
+    c.in-Sync.file (c.sync.ensures.ok s) (c.sync.ensures.err s))
+
 pub returns-in-HangUp-clause-step : goal.returns-in-HangUp-clause-step
 returns-in-HangUp-clause-step g c =
     let s = store_state g.C.Cluster c.args.cluster.now in
@@ -47,3 +54,9 @@ returns-in-Pump-clause-safe g c =
     let at = g.C.Cluster.at c.args.cluster.now in
     let h = rw (← c.self-in-Pump.view_is) at c.requires.placed in
     all_safe g.C.File.AppendFile.tells _ at _ (c.pump.ensures.placed at h)
+
+pub returns-in-Sync-clause-safe : goal.returns-in-Sync-clause-safe
+returns-in-Sync-clause-safe g c =
+    let at = g.C.Cluster.at c.args.cluster.now in
+    let h = rw (← c.self-in-Sync.view_is) at c.requires.placed in
+    all_safe g.C.File.AppendFile.tells _ at _ (c.sync.ensures.placed at h)
