@@ -1,5 +1,6 @@
 #!/usr/bin/env python3
-"""Times nfsgw over uploads: WRITE calls in windows, each window followed by a turn of the writer for each of its writes.
+"""Times nfsgw over uploads: WRITE calls in windows, each window followed by a turn of the writer for each of its writes,
+and behind them a COMMIT of the file, with its turn and a sync.
 
 The line to the writer has eight slots, so there is a pump after each eight turns of a window, which sends what is ready.
 
@@ -54,6 +55,21 @@ def write_call(xid, offset, content):
     return struct.pack(">I", LAST_FRAGMENT + len(call)) + call
 
 
+def commit_call(xid):
+    """A COMMIT of the whole file, as a record of one fragment (RFC 1813 section 3.3.21)."""
+    call = struct.pack(">11I", xid, 0, 2, 100003, 3, 21, 0, 0, 0, 0, 32)
+    call += handle()
+    call += struct.pack(">QI", 0, 0)
+    return struct.pack(">I", LAST_FRAGMENT + len(call)) + call
+
+
+def committed_reply(xid):
+    """The reply to a COMMIT that was done, as a record of one fragment."""
+    reply = struct.pack(">6I", xid, 1, 0, 0, 0, 0)
+    reply += struct.pack(">3IQ", 0, 0, 0, GENERATION)
+    return struct.pack(">I", LAST_FRAGMENT + len(reply)) + reply
+
+
 def wrote_reply(xid, count):
     """The reply to an UNSTABLE WRITE that was done, as a record of one fragment."""
     reply = struct.pack(">6I", xid, 1, 0, 0, 0, 0)
@@ -86,13 +102,14 @@ def make_transcript(path, count, size, window):
                 if first > 0:
                     out.write("pump 4\n")
                 out.write("turn 4\n" * min(SLOTS, len(places) - first))
-        out.write("end\n")
+        out.write(f"bytes 1 {commit_call(count + 1).hex()}\nturn 4\nsync 4\nend\n")
 
 
 def expected_lines(count, size, window):
     # A write above what is there is answered when it comes, the first of its window at its turn, after the others.
     for xid in range(1, count + 1):
         yield f"reply 1 {wrote_reply(xid, size).hex()}"
+    yield f"reply 1 {committed_reply(count + 1).hex()}"
     yield "context 4 from 0"
     number = 0
     for places in windows_of(count, window):
@@ -100,7 +117,7 @@ def expected_lines(count, size, window):
             number += 1
             yield f"write {number} {place * size} {size} put -"
     reach = count * size
-    yield f"ended 4 end reach {reach} stored {reach} synced 0"
+    yield f"ended 4 end reach {reach} stored {reach} synced {reach}"
 
 
 def check_output(path, count, size, window):
