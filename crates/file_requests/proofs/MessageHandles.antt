@@ -6,7 +6,7 @@ use Rattle.std.proofs.lemmas.Slice.Eq.{bytes_eq-Decides}
 use Rattle.md5.specs.Md5.{md5}
 use Rattle.handles.specs.Handle.{handle_text, ids_text, IsHandle}
 use Rattle.handles.proofs.Handles.{ids-of_handle, file-of_ids, fsid-of_ids}
-use Rattle.gw_model.specs.Statuses.{badhandle, inval, rofs, stale}
+use Rattle.gw_model.specs.Statuses.{badhandle, inval, stale}
 use Rattle.gw_config.specs.Settings.{Settings}
 use Rattle.file_requests.specs.declared.message.WriteArgs.{WriteArgs}
 use Rattle.file_requests.specs.Messages.{is_file, is_handle, file_in, fsid_in, counted_file, numbered_file, handle_file, writable_file, write_file}
