@@ -8,7 +8,7 @@ use Rattle.put_core.specs.declared.call.SentWrite.{SentWrite}
 use Rattle.put_core.specs.declared.call.PutEnding.{PutEnding}
 use Rattle.put_core.specs.declared.call.Choice.{Choice}
 use Rattle.put_core.specs.declared.call.Choice.TheVariants.{Sends, Commits, Waits, Ends}
-use Rattle.put_core.specs.Steps.{PutState, choice_by, choice_of, chunk_choice, ending_next, first_unheld, is_quiet, is_spent, most_beginnings, most_retries, next_chunk, running_choice, window_end}
+use Rattle.put_core.specs.Steps.{PutState, choice_by, choice_of, chunk_choice, ending_next, first_unheld, is_none_sent, is_spent, most_beginnings, most_retries, next_chunk, running_choice, window_end}
 use Rattle.put_core.specs.Kept.{commit_count}
 use Rattle.put_core.specs.Calls.{outstanding_calls}
 use Rattle.put_core.proofs.ChunkLists.{next_idle}
@@ -29,12 +29,12 @@ by_choice s P h = by_ending s.ending refl
     by_chunk running within (Some c) is = h.sends c running within is
     by_chunk running within None is = h.blocked within is
 
-    by_calls : length s.chunks ≤ first_unheld s.chunks → (o : Option ℕ) → s.commit ≡ o → (ws : List SentWrite) → s.writes ≡ ws → P (cond (is_none o && is_quiet ws) Commits Waits)
+    by_calls : length s.chunks ≤ first_unheld s.chunks → (o : Option ℕ) → s.commit ≡ o → (ws : List SentWrite) → s.writes ≡ ws → P (cond (is_none o && is_none_sent ws) Commits Waits)
     by_calls all (Some n) e ws f = h.owes (omega (arith, ap commit_count e))
     by_calls all None e [] f = h.commits all e f
     by_calls all None e (w ∷ ws) f = h.owes (omega (arith, ap length f))
 
-    by_open : is_spent s ≡ false → (b : Bool) → nat_lt (first_unheld s.chunks) (length s.chunks) ≡ b → P (cond b (chunk_choice (next_chunk s)) (cond (is_none s.commit && is_quiet s.writes) Commits Waits))
+    by_open : is_spent s ≡ false → (b : Bool) → nat_lt (first_unheld s.chunks) (length s.chunks) ≡ b → P (cond b (chunk_choice (next_chunk s)) (cond (is_none s.commit && is_none_sent s.writes) Commits Waits))
     by_open running true e = by_chunk running (ltb-true (first_unheld s.chunks) (length s.chunks) e) (next_chunk s) refl
     by_open running false e = by_calls (ltb-false (first_unheld s.chunks) (length s.chunks) e) s.commit refl s.writes refl
 

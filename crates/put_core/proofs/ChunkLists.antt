@@ -11,7 +11,7 @@ use Rattle.std.proofs.lemmas.List.{length-take, get_or-drop, length-drop}
 use Rattle.std.proofs.lemmas.List.Quantifiers.{position-Some}
 use Rattle.put_core.specs.declared.call.ChunkState.{ChunkState}
 use Rattle.put_core.specs.declared.call.ChunkState.TheVariants.{Idle, Sent, Held}
-use Rattle.put_core.specs.Steps.{PutState, first_unheld, is_idle, is_sent, is_unheld, place_behind, last_place, idle_place, window_start, window_end, present_window, next_chunk, unheld_chunk, unsent_chunk}
+use Rattle.put_core.specs.Steps.{PutState, first_unheld, is_unsent, is_sent, is_unheld, place_behind, last_place, idle_place, window_start, window_end, present_window, next_chunk, unheld_chunk, unsent_chunk}
 
 -- What is held after one chunk changed is that chunk, or was held before.
 pub held_after_set : (ms : List ChunkState) (c d : ℕ) (m : ChunkState) → slice_get (set ms c m) d ≡ Some Held → ((d ≡ c) × (m ≡ Held)) ⊎ (slice_get ms d ≡ Some Held)
@@ -178,15 +178,15 @@ first_within (Idle ∷ ms) = omega arith
 first_within (Sent ∷ ms) = omega arith
 first_within (Held ∷ ms) = let h : first_unheld ms ≤ length ms = first_within ms in omega arith
 
-idle_is : (m : ChunkState) → is_idle m ≡ true → m ≡ Idle
+idle_is : (m : ChunkState) → is_unsent m ≡ true → m ≡ Idle
 idle_is Idle is = refl
 idle_is Sent is = absurd (cc)
 idle_is Held is = absurd (cc)
 
 -- What is found is there, and idle.
 idle_at : (b : Bool) (ms : List ChunkState) (k : ℕ) → idle_place b ms ≡ Some k → (k < length ms) × (get_or ms k Idle ≡ Idle)
-idle_at true ms k is = let h = last_place_is is_idle ms k Idle is in (h.0, idle_is (get_or ms k Idle) h.1)
-idle_at false ms k is = let h = position-Some is_idle ms k Idle is in (h.0, idle_is (get_or ms k Idle) h.1)
+idle_at true ms k is = let h = last_place_is is_unsent ms k Idle is in (h.0, idle_is (get_or ms k Idle) h.1)
+idle_at false ms k is = let h = position-Some is_unsent ms k Idle is in (h.0, idle_is (get_or ms k Idle) h.1)
 
 in_take : (ms : List ChunkState) (n k : ℕ) → k < length (take n ms) → (k < length ms) × (get_or (take n ms) k Idle ≡ get_or ms k Idle)
 in_take [] zero k within = absurd (omega arith)
@@ -213,23 +213,23 @@ next_idle s c is = go (idle_place s.backward (present_window s)) refl is
         let same : window_start s + k ≡ c = cc in
         subst (λ n. (n < length s.chunks) × (n < window_end s) × (get_or s.chunks n Idle ≡ Idle)) same (there.0, there.1, sym there.2 ∙ at.1)
 
-pub some_within : (ms : List ChunkState) (o : Option ℕ) → last_place is_idle ms ≡ o → IfSome o (λ k. k < length ms)
+pub some_within : (ms : List ChunkState) (o : Option ℕ) → last_place is_unsent ms ≡ o → IfSome o (λ k. k < length ms)
 some_within ms None e = tt
-some_within ms (Some k) e = (last_place_is is_idle ms k Idle e).0
+some_within ms (Some k) e = (last_place_is is_unsent ms k Idle e).0
 
 -- Where none is found none is idle.
-last_none : (ms : List ChunkState) (k : ℕ) → last_place is_idle ms ≡ None → k < length ms → is_idle (get_or ms k Idle) ≡ false
+last_none : (ms : List ChunkState) (k : ℕ) → last_place is_unsent ms ≡ None → k < length ms → is_unsent (get_or ms k Idle) ≡ false
 last_none [] k none within = absurd (omega arith)
-last_none (m ∷ ms) k none within = go (λ j f w. last_none ms j f w) (is_idle m) refl (last_place is_idle ms) refl none k within
+last_none (m ∷ ms) k none within = go (λ j f w. last_none ms j f w) (is_unsent m) refl (last_place is_unsent ms) refl none k within
   where
-    go : ((j : ℕ) → last_place is_idle ms ≡ None → j < length ms → is_idle (get_or ms j Idle) ≡ false)
-        → (b : Bool) → is_idle m ≡ b → (o : Option ℕ) → last_place is_idle ms ≡ o → place_behind b o ≡ None → (j : ℕ) → j < length (m ∷ ms) → is_idle (get_or (m ∷ ms) j Idle) ≡ false
+    go : ((j : ℕ) → last_place is_unsent ms ≡ None → j < length ms → is_unsent (get_or ms j Idle) ≡ false)
+        → (b : Bool) → is_unsent m ≡ b → (o : Option ℕ) → last_place is_unsent ms ≡ o → place_behind b o ≡ None → (j : ℕ) → j < length (m ∷ ms) → is_unsent (get_or (m ∷ ms) j Idle) ≡ false
     go rest b e (Some i) f g j within = absurd (cc)
     go rest true e None f g j within = absurd (cc)
     go rest false e None f g zero within = e
     go rest false e None f g (suc j) within = rest j f (omega arith)
 
-idle_past : (ms : List ChunkState) (k : ℕ) → length ms ≤ position_or_len is_idle ms → k < length ms → is_idle (get_or ms k Idle) ≡ false
+idle_past : (ms : List ChunkState) (k : ℕ) → length ms ≤ position_or_len is_unsent ms → k < length ms → is_unsent (get_or ms k Idle) ≡ false
 idle_past [] k high within = absurd (omega arith)
 idle_past (Idle ∷ ms) k high within = absurd (omega arith)
 idle_past (Sent ∷ ms) zero high within = refl
@@ -237,11 +237,11 @@ idle_past (Sent ∷ ms) (suc k) high within = idle_past ms k (omega arith) (omeg
 idle_past (Held ∷ ms) zero high within = refl
 idle_past (Held ∷ ms) (suc k) high within = idle_past ms k (omega arith) (omega arith)
 
-idle_none : (b : Bool) (ms : List ChunkState) (k : ℕ) → idle_place b ms ≡ None → k < length ms → is_idle (get_or ms k Idle) ≡ false
+idle_none : (b : Bool) (ms : List ChunkState) (k : ℕ) → idle_place b ms ≡ None → k < length ms → is_unsent (get_or ms k Idle) ≡ false
 idle_none true ms k none within = last_none ms k none within
-idle_none false ms k none within = idle_past ms k (ltb-false (position_or_len is_idle ms) (length ms) (test (nat_lt (position_or_len is_idle ms) (length ms)) none)) within
+idle_none false ms k none within = idle_past ms k (ltb-false (position_or_len is_unsent ms) (length ms) (test (nat_lt (position_or_len is_unsent ms) (length ms)) none)) within
   where
-    test : (b : Bool) → cond b (Some (position_or_len is_idle ms)) None ≡ None → b ≡ false
+    test : (b : Bool) → cond b (Some (position_or_len is_unsent ms)) None ≡ None → b ≡ false
     test true e = absurd (cc)
     test false e = refl
 
@@ -271,13 +271,13 @@ sent_there s some within none = is_sent_state (get_or s.chunks (first_unheld s.c
     same : window_start s + first_unheld s.chunks % s.window ≡ first_unheld s.chunks
     same = omega arith
 
-    not_idle : is_idle (get_or s.chunks (first_unheld s.chunks) Idle) ≡ false
+    not_idle : is_unsent (get_or s.chunks (first_unheld s.chunks) Idle) ≡ false
     not_idle =
-        subst (λ k. is_idle (get_or s.chunks k Idle) ≡ false) same
-        (sym (ap is_idle (in_range s.chunks (window_start s) (window_end s) (first_unheld s.chunks % s.window) in_it).2)
+        subst (λ k. is_unsent (get_or s.chunks k Idle) ≡ false) same
+        (sym (ap is_unsent (in_range s.chunks (window_start s) (window_end s) (first_unheld s.chunks % s.window) in_it).2)
         ∙ idle_none s.backward (present_window s) (first_unheld s.chunks % s.window) (no_place (idle_place s.backward (present_window s)) none) in_it)
 
-    is_sent_state : (m : ChunkState) → is_idle m ≡ false → is_unheld m ≡ true → m ≡ Sent
+    is_sent_state : (m : ChunkState) → is_unsent m ≡ false → is_unheld m ≡ true → m ≡ Sent
     is_sent_state Idle e f = absurd (cc)
     is_sent_state Sent e f = refl
     is_sent_state Held e f = absurd (cc)

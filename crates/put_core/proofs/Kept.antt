@@ -9,7 +9,7 @@ use Rattle.put_core.specs.declared.call.ChunkState.{ChunkState}
 use Rattle.put_core.specs.declared.call.ChunkState.TheVariants.{Idle, Sent, Held}
 use Rattle.put_core.specs.declared.call.SentWrite.{SentWrite}
 use Rattle.gw_model.specs.Bounds.{max_transfer}
-use Rattle.put_core.specs.Steps.{PutState, new_put, chunk_count, first_unheld, is_idle, is_sent, is_unheld, unheld_chunk, unsent_chunk, no_write, sent_write, without_write, after_hold, most_beginnings, most_breaks, most_chunks, most_window}
+use Rattle.put_core.specs.Steps.{PutState, new_put, chunk_count, first_unheld, is_unsent, is_sent, is_unheld, unheld_chunk, unsent_chunk, no_write, sent_write, without_write, after_hold, most_beginnings, most_breaks, most_chunks, most_window}
 use Rattle.put_core.specs.Kept.{AreOthers, AreSent, busy_chunks, commit_count, xid_bound, IsKept}
 use Rattle.put_core.proofs.ChunkLists.{count_set, count_unheld, count_unsent, first_anew, first_unsent, first_same}
 use Rattle.put_core.proofs.Choices.{IsToBeSent}
@@ -157,7 +157,7 @@ kept_sends s first room c k to_send = record {
     sents = let e = subst (λ (m : ChunkState). count_by is_sent (set s.chunks c Sent) + cond (is_sent m) 1 0 ≡ count_by is_sent s.chunks + 1) to_send.idle (count_set is_sent s.chunks c Sent to_send.within) in omega arith
 
     busies : busy_chunks (set s.chunks c Sent) ≡ busy_chunks s.chunks + 1
-    busies = let e = subst (λ (m : ChunkState). busy_chunks (set s.chunks c Sent) + cond (not (is_idle m)) 1 0 ≡ busy_chunks s.chunks + 1) to_send.idle (count_set (λ m. not (is_idle m)) s.chunks c Sent to_send.within) in omega arith
+    busies = let e = subst (λ (m : ChunkState). busy_chunks (set s.chunks c Sent) + cond (not (is_unsent m)) 1 0 ≡ busy_chunks s.chunks + 1) to_send.idle (count_set (λ m. not (is_unsent m)) s.chunks c Sent to_send.within) in omega arith
 
     one_more : length (s.writes ++ sent_write (s.last + 1) c ∷ []) ≡ count_by is_sent s.chunks + 1
     one_more = omega (arith, length-append s.writes (sent_write (s.last + 1) c ∷ []), k.counted)
@@ -189,7 +189,7 @@ kept_broken s first room ms ks k is none few = record {
   ahead = ahead_all s.window (s.beginnings * s.window) ms (omega (arith, no_sent));
   fit = omega (arith, ap length none);
   spare = k.spare;
-  numbers = go (is_some s.commit) (count_by-le-length (λ m. not (is_idle m)) s.chunks) k.numbers;
+  numbers = go (is_some s.commit) (count_by-le-length (λ m. not (is_unsent m)) s.chunks) k.numbers;
   beginnings = k.beginnings;
   retries = k.retries;
   breaks = omega arith;
@@ -206,7 +206,7 @@ kept_broken s first room ms ks k is none few = record {
     go false b n = omega (arith, k.few)
 
 pub slack_again : (s : PutState) (first room : ℕ) (ms : List ChunkState) → IsKept s first room → s.last < busy_chunks ms + commit_count s.commit + s.retries + (most_chunks + 2) * (s.beginnings + 1 + s.breaks)
-slack_again s first room ms k = omega (arith, count_by-le-length (λ m. not (is_idle m)) s.chunks, k.few, k.numbers)
+slack_again s first room ms k = omega (arith, count_by-le-length (λ m. not (is_unsent m)) s.chunks, k.few, k.numbers)
 
 pub kept_begun_again : (s : PutState) (first room : ℕ) (ms : List ChunkState) → IsKept s first room → ms ≡ map unheld_chunk s.chunks → s.beginnings < most_beginnings → IsKept (record s { chunks = ms; verifier = None; beginnings = s.beginnings + 1 }) 0 room
 kept_begun_again s first room ms k is few = record {
@@ -265,7 +265,7 @@ kept_released s first room place k within slack = record {
     sents = let e = subst (λ (m : ChunkState). count_by is_sent (set s.chunks c Idle) + cond (is_sent m) 1 0 ≡ count_by is_sent s.chunks + 0) was.1 (count_set is_sent s.chunks c Idle was.0) in omega arith
 
     busies : busy_chunks (set s.chunks c Idle) + 1 ≡ busy_chunks s.chunks
-    busies = let e = subst (λ (m : ChunkState). busy_chunks (set s.chunks c Idle) + cond (not (is_idle m)) 1 0 ≡ busy_chunks s.chunks + 0) was.1 (count_set (λ m. not (is_idle m)) s.chunks c Idle was.0) in omega arith
+    busies = let e = subst (λ (m : ChunkState). busy_chunks (set s.chunks c Idle) + cond (not (is_unsent m)) 1 0 ≡ busy_chunks s.chunks + 0) was.1 (count_set (λ m. not (is_unsent m)) s.chunks c Idle was.0) in omega arith
 
 -- An outstanding WRITE is closed, and its chunk held.
 kept_held : (s : PutState) (first room place verifier : ℕ) (f : ℕ) → IsKept s first room → place < length s.writes → f ≡ first_unheld (set s.chunks (get_or s.writes place no_write).chunk Held)
@@ -299,7 +299,7 @@ kept_held s first room place verifier f k within is = record {
     sents = let e = subst (λ (m : ChunkState). count_by is_sent (set s.chunks c Held) + cond (is_sent m) 1 0 ≡ count_by is_sent s.chunks + 0) was.1 (count_set is_sent s.chunks c Held was.0) in omega arith
 
     busies : busy_chunks (set s.chunks c Held) + 1 ≡ busy_chunks s.chunks + 1
-    busies = let e = subst (λ (m : ChunkState). busy_chunks (set s.chunks c Held) + cond (not (is_idle m)) 1 0 ≡ busy_chunks s.chunks + 1) was.1 (count_set (λ m. not (is_idle m)) s.chunks c Held was.0) in omega arith
+    busies = let e = subst (λ (m : ChunkState). busy_chunks (set s.chunks c Held) + cond (not (is_unsent m)) 1 0 ≡ busy_chunks s.chunks + 1) was.1 (count_set (λ m. not (is_unsent m)) s.chunks c Held was.0) in omega arith
 
 -- As the code leaves them.
 

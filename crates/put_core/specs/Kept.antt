@@ -4,7 +4,7 @@ use Rattle.gw_model.specs.Bounds.{max_transfer}
 use Rattle.put_core.specs.declared.call.ChunkState.{ChunkState}
 use Rattle.put_core.specs.declared.call.ChunkState.TheVariants.{Idle, Sent}
 use Rattle.put_core.specs.declared.call.SentWrite.{SentWrite}
-use Rattle.put_core.specs.Steps.{PutState, chunk_count, first_unheld, is_idle, is_sent, most_beginnings, most_breaks, most_chunks, most_retries, most_window, window_end}
+use Rattle.put_core.specs.Steps.{PutState, chunk_count, first_unheld, is_unsent, is_sent, most_beginnings, most_breaks, most_chunks, most_retries, most_window, window_end}
 
 -- no WRITE of these is of chunk c
 abbrev pub AreOthers : ℕ → List SentWrite → Type 0
@@ -18,7 +18,7 @@ AreSent chunks (w ∷ ws) = (w.chunk < length chunks) × (get_or chunks w.chunk 
 
 -- how many chunks are outstanding or held
 abbrev pub busy_chunks : List ChunkState → ℕ
-busy_chunks chunks = count_by (λ m. not (is_idle m)) chunks
+busy_chunks chunks = count_by (λ m. not (is_unsent m)) chunks
 
 abbrev pub commit_count : Option ℕ → ℕ
 commit_count commit = if is_some commit then 1 else 0

@@ -80,10 +80,10 @@ offset_of s c = c * s.chunk
 abbrev pub count_of : PutState → ℕ → ℕ
 count_of s c = min s.chunk (s.size - offset_of s c)
 
-abbrev pub is_idle : ChunkState → Bool
-is_idle Idle = true
-is_idle Sent = false
-is_idle Held = false
+abbrev pub is_unsent : ChunkState → Bool
+is_unsent Idle = true
+is_unsent Sent = false
+is_unsent Held = false
 
 abbrev pub is_sent : ChunkState → Bool
 is_sent Idle = false
@@ -122,7 +122,7 @@ present_window s = slice_range s.chunks (window_start s) (window_end s)
 
 -- the first of these that is to be sent, or the last
 abbrev pub idle_place : Bool → List ChunkState → Option ℕ
-idle_place backward chunks = if backward then last_place is_idle chunks else position is_idle chunks
+idle_place backward chunks = if backward then last_place is_unsent chunks else position is_unsent chunks
 
 -- the chunk of the present window that is sent next
 abbrev pub next_chunk : PutState → Option ℕ
@@ -141,15 +141,15 @@ chunk_choice (Some c) = Sends c
 chunk_choice None = Waits
 
 -- no WRITE is outstanding
-abbrev pub is_quiet : List SentWrite → Bool
-is_quiet [] = true
-is_quiet (w ∷ ws) = false
+abbrev pub is_none_sent : List SentWrite → Bool
+is_none_sent [] = true
+is_none_sent (w ∷ ws) = false
 
 -- The COMMIT is sent when all chunks are held and no call is outstanding.
 abbrev pub running_choice : PutState → Choice
 running_choice s =
     if nat_lt (first_unheld s.chunks) (length s.chunks) then chunk_choice (next_chunk s)
-    else if is_none s.commit && is_quiet s.writes then Commits else Waits
+    else if is_none s.commit && is_none_sent s.writes then Commits else Waits
 
 abbrev pub choice_by : Option PutEnding → PutState → Choice
 choice_by (Some e) s = Ends (ending_next e)

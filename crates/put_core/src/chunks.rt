@@ -1,13 +1,13 @@
 // How far the chunks of a source are.
 ghost use Rattle.std.specs.Prelude.{◌≡◌, ◌<◌, ◌≤◌, length, map, position, IfSome, count_by};
-ghost use Rattle.put_core.specs.Steps.{first_unheld, idle_place, is_idle, is_sent, last_place, unheld_chunk, unsent_chunk};
+ghost use Rattle.put_core.specs.Steps.{first_unheld, idle_place, is_unsent, is_sent, last_place, unheld_chunk, unsent_chunk};
 ghost use Rattle.put_core.specs.Kept.{AreSent};
 
 use crate::call::{ChunkState, SentWrite};
 
 impl ChunkState {
-    fn is_idle(self) -> bool
-        ensures { result ≡ is_idle self }
+    fn is_unsent(self) -> bool
+        ensures { result ≡ is_unsent self }
     {
         match self {
             ChunkState::Idle => true,
@@ -27,18 +27,18 @@ impl ChunkState {
 
 // The first chunk of these that is to be sent.
 fn first_idle(chunks: &[ChunkState]) -> Option<usize>
-    ensures { result ≡ position is_idle chunks.now }
+    ensures { result ≡ position is_unsent chunks.now }
 {
-    chunks.iter().position(|chunk| chunk.is_idle())
+    chunks.iter().position(|chunk| chunk.is_unsent())
 }
 
 // The last chunk of these that is to be sent.
 fn last_idle(chunks: &[ChunkState]) -> Option<usize>
-    ensures { result ≡ last_place is_idle chunks.now }
+    ensures { result ≡ last_place is_unsent chunks.now }
 {
     let mut end = chunks.len();
     while end > 0 {
-        if chunks[end - 1].is_idle() {
+        if chunks[end - 1].is_unsent() {
             return Some(end - 1);
         }
         end -= 1;

@@ -3,14 +3,14 @@ use Rattle.std.proofs.Common.{◌≡◌, ◌≢◌, ◌≤◌, ◌⊎◌, inl, i
 use Rattle.gw_model.specs.declared.object.ObjectId.{ObjectId}
 use Rattle.gw_outside.specs.Causes.{Carries}
 use Rattle.replica_store.specs.Parts.{FilesState, count_in, counts, fresh_files}
-use Rattle.replica_store.specs.Seats.{SeatView, KnownState, IsSound, losses_of}
-use Rattle.replica_store.specs.Objects.{AreSound, LeavesOthers}
+use Rattle.replica_store.specs.Seats.{SeatView, KnownState, IsSoundReplica, losses_of}
+use Rattle.replica_store.specs.Objects.{AreSound, LeavesOtherObjects}
 use Rattle.replica_store.proofs.Changes.{same_name}
 
 pub some_called : (n q : ℕ) → 0 < q → q ≤ n → 0 < n
 some_called n q some enough = omega (arith, some, enough)
 
-pub still_sound : {X : Type 0} (told : Type 0) (v : X → SeatView) (olds news : List X) (old new : List (ObjectId × KnownState)) (quorum : ℕ) → IsSound told v olds old quorum → AreSound told v news new → IsSound told v news new quorum
+pub still_sound : {X : Type 0} (told : Type 0) (v : X → SeatView) (olds news : List X) (old new : List (ObjectId × KnownState)) (quorum : ℕ) → IsSoundReplica told v olds old quorum → AreSound told v news new → IsSoundReplica told v news new quorum
 still_sound told v olds news old new quorum was is = record { enough = was.enough; each = is }
 
 -- a file's faults, where its members' files went back to them
@@ -29,5 +29,5 @@ all_at : {X : Type 0} (v : X → SeatView) (object : ObjectId) (olds news : List
 all_at v object olds news others here q (inl same) = subst (λ r. losses_of v news r ≡ losses_of v olds r) (sym same) here
 all_at v object olds news others here q (inr other) = others q other
 
-pub all_losses : {X : Type 0} (v : X → SeatView) (told : Type 0) (object : ObjectId) (olds news : List X) (old new : List (ObjectId × KnownState)) → LeavesOthers told v object olds news old new → losses_of v news object ≡ losses_of v olds object → told → (q : ObjectId) → losses_of v news q ≡ losses_of v olds q
+pub all_losses : {X : Type 0} (v : X → SeatView) (told : Type 0) (object : ObjectId) (olds news : List X) (old new : List (ObjectId × KnownState)) → LeavesOtherObjects told v object olds news old new → losses_of v news object ≡ losses_of v olds object → told → (q : ObjectId) → losses_of v news q ≡ losses_of v olds q
 all_losses v told object olds news old new rest here t q = all_at v object olds news (rest.no_losses t) here q (same_name q object)

@@ -5,8 +5,8 @@ use Rattle.gw_model.specs.declared.object.KeptObject.{KeptObject}
 use Rattle.gw_model.specs.declared.object.ObjectId.{ObjectId}
 use Rattle.append_store.specs.State.{ObjectState, Missing, Kept, Lent, IsAway, IsThere, bytes_of}
 use Rattle.append_store.specs.Calls.{HasLength, Lists}
-use Rattle.replica_store.specs.Parts.{PartState}
-use Rattle.replica_store.specs.Seats.{SeatView, KnownState, AllTakePart, IsSoundAt, TakesPart, are_copies, column, counts_of, is_given_up, known_at, losses_of, none_live, state_of, told_by, told_of}
+use Rattle.replica_store.specs.Parts.{PartView}
+use Rattle.replica_store.specs.Seats.{SeatView, KnownState, AllTakePart, IsSoundAt, TakesPart, are_copies, column, counts_of, has_no_member, known_at, losses_of, none_live, state_of, told_by, told_of}
 use Rattle.replica_store.specs.Steps.{AllHave, IsListedBy, SomeSeat, Stays}
 use Rattle.replica_store.specs.Kept.{AllTouch, AllUnused}
 use Rattle.replica_store.specs.Objects.{AreSound, told_at}
@@ -110,7 +110,7 @@ map_all P Q step [] all = tt
 map_all P Q step (x ∷ xs) all = (step x all.0, map_all P Q step xs all.1)
 
 module _ {X : Type 0} (v : X → SeatView) (told : Type 0) where
-  off_each : (Q : X → Type 0) (xs : List X) (ps : List PartState) → none_live ps ≡ true → AllZip (λ s p. TakesPart (v s) p) xs ps → AllByRecursion (λ s. (v s).live ≡ true → Q s) xs
+  off_each : (Q : X → Type 0) (xs : List X) (ps : List PartView) → none_live ps ≡ true → AllZip (λ s p. TakesPart (v s) p) xs ps → AllByRecursion (λ s. (v s).live ≡ true → Q s) xs
   off_each Q [] [] off part = tt
   off_each Q [] (p ∷ ps) off part = absurd part
   off_each Q (x ∷ xs) [] off part = absurd part
@@ -118,11 +118,11 @@ module _ {X : Type 0} (v : X → SeatView) (told : Type 0) where
       let b = both (not p.live) (none_live ps) off in
       (λ live. let on = part.0 live in let o = b.0 in absurd (cc), off_each Q xs ps b.1 part.1)
 
-  up_each : (Q : X → Type 0) (xs : List X) (ps : List PartState) → is_given_up ps ≡ true → AllTakePart v xs ps → AllByRecursion (λ s. (v s).live ≡ true → Q s) xs
+  up_each : (Q : X → Type 0) (xs : List X) (ps : List PartView) → has_no_member ps ≡ true → AllTakePart v xs ps → AllByRecursion (λ s. (v s).live ≡ true → Q s) xs
   up_each Q xs [] up part = absurd (cc)
   up_each Q xs (p ∷ ps) up part = off_each Q xs (p ∷ ps) up part
 
-  copies_each : (q : ObjectId) (bytes : List ℕ) (synced d : ℕ) (xs : List X) (ps : List PartState) → AllFit v q bytes synced xs ps → AllZip (λ s p. TakesPart (v s) p) xs ps → AllByRecursion (λ s. (v s).live ≡ true → Sees ((v s).at q) (Kept bytes d)) xs
+  copies_each : (q : ObjectId) (bytes : List ℕ) (synced d : ℕ) (xs : List X) (ps : List PartView) → AllFit v q bytes synced xs ps → AllZip (λ s p. TakesPart (v s) p) xs ps → AllByRecursion (λ s. (v s).live ≡ true → Sees ((v s).at q) (Kept bytes d)) xs
   copies_each q bytes synced d [] [] fit part = tt
   copies_each q bytes synced d [] (p ∷ ps) fit part = absurd fit
   copies_each q bytes synced d (x ∷ xs) [] fit part = absurd fit
@@ -136,9 +136,9 @@ module _ {X : Type 0} (v : X → SeatView) (told : Type 0) where
   AllSee q xs b = AllByRecursion (λ s. (v s).live ≡ true → Sees ((v s).at q) b) xs
 
   see_some : (q : ObjectId) (xs : List X) (k : KnownState) → AllTakePart v xs k.parts → (s : ObjectState) → (IsAway (told_by k (column v xs q) s) → ⊥) → AllSee q xs (told_by k (column v xs q) s)
-  see_some q xs k part Missing none = by (is_given_up k.parts) refl none
+  see_some q xs k part Missing none = by (has_no_member k.parts) refl none
     where
-      by : (b : Bool) → is_given_up k.parts ≡ b → (IsAway (if b then Missing else Lent []) → ⊥) → AllSee q xs (if b then Missing else Lent [])
+      by : (b : Bool) → has_no_member k.parts ≡ b → (IsAway (if b then Missing else Lent []) → ⊥) → AllSee q xs (if b then Missing else Lent [])
       by true up out = up_each (λ s. Sees ((v s).at q) Missing) xs k.parts up part
       by false up out = absurd (out tt)
   see_some q xs k part (Kept bytes durable) none = by (are_copies bytes k.synced k.parts (column v xs q)) refl none

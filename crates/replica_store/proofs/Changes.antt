@@ -5,10 +5,10 @@ use Rattle.std.specs.List.{AllByRecursion, AllZip}
 use Rattle.gw_model.specs.declared.object.ObjectId.{ObjectId}
 use Rattle.gw_model.specs.declared.object.ObjectId.TheVariants.{Log, Body}
 use Rattle.append_store.specs.State.{IsAway}
-use Rattle.replica_store.specs.Parts.{PartState, live_of, one_if}
+use Rattle.replica_store.specs.Parts.{PartView, live_of, one_if}
 use Rattle.replica_store.specs.Seats.{SeatView, KnownState, AllTakePart, TakesPart, IsSoundAt, called_of, column, counts_of, known_at, losses_of, told_of}
 use Rattle.replica_store.specs.Kept.{AllTouch, AllUnused, NoneCalled}
-use Rattle.replica_store.specs.Objects.{AreSound, LeavesOthers}
+use Rattle.replica_store.specs.Objects.{AreSound, LeavesOtherObjects}
 use Rattle.replica_store.proofs.Pairs.{weaker_pairs}
 use Rattle.replica_store.proofs.Told.{column_same}
 
@@ -65,11 +65,11 @@ one_more false true is = let e = is refl in absurd (cc)
 one_more false false is = omega arith
 
 -- where none was given there are few
-none_live_of : (ps : List PartState) → AllByRecursion (λ p. p.live ≡ false) ps → live_of ps ≡ 0
+none_live_of : (ps : List PartView) → AllByRecursion (λ p. p.live ≡ false) ps → live_of ps ≡ 0
 none_live_of [] none = refl
 none_live_of (p ∷ ps) none = let a = ap one_if none.0 in let b = none_live_of ps none.1 in omega (arith, a, b, sum_by-cons (λ r. one_if r.live) p ps)
 
-pub few_live : (lead : Option ℕ) (ps : List PartState) (quorum : ℕ) → 0 < quorum → IfNone lead (AllByRecursion (λ p. p.live ≡ false) ps) → IfNone lead (live_of ps < quorum)
+pub few_live : (lead : Option ℕ) (ps : List PartView) (quorum : ℕ) → 0 < quorum → IfNone lead (AllByRecursion (λ p. p.live ≡ false) ps) → IfNone lead (live_of ps < quorum)
 few_live None ps quorum some none = let e = none_live_of ps none in omega (arith, some, e)
 few_live (Some k) ps quorum some none = tt
 
@@ -78,7 +78,7 @@ module _ {X : Type 0} (v : X → SeatView) where
   none_are_called [] none = refl
   none_are_called (s ∷ ss) none = let a = ap one_if none.0 in let b = none_are_called ss none.1 in omega (arith, a, b, sum_by-cons (λ s. one_if (v s).live) s ss)
 
-  pub fewer_called : (ss : List X) (ps : List PartState) → AllZip (λ s p. TakesPart (v s) p) ss ps → called_of v ss ≤ sum_by (λ p. one_if p.live) ps
+  pub fewer_called : (ss : List X) (ps : List PartView) → AllZip (λ s p. TakesPart (v s) p) ss ps → called_of v ss ≤ sum_by (λ p. one_if p.live) ps
   fewer_called [] [] is = omega arith
   fewer_called [] (p ∷ ps) is = absurd is
   fewer_called (s ∷ ss) [] is = absurd is
@@ -106,14 +106,14 @@ module _ {X : Type 0} (v : X → SeatView) where
       unused_still q other xs ys is.1 all.1,
     )
 
-    part_still : (xs ys : List X) (ps : List PartState) → AllTouch told v object xs ys → AllZip (λ s p. TakesPart (v s) p) xs ps → AllZip (λ s p. TakesPart (v s) p) ys ps
+    part_still : (xs ys : List X) (ps : List PartView) → AllTouch told v object xs ys → AllZip (λ s p. TakesPart (v s) p) xs ps → AllZip (λ s p. TakesPart (v s) p) ys ps
     part_still [] [] ps is all = all
     part_still [] (y ∷ ys) ps is all = absurd is
     part_still (x ∷ xs) [] ps is all = absurd is
     part_still (x ∷ xs) (y ∷ ys) [] is all = absurd all
     part_still (x ∷ xs) (y ∷ ys) (p ∷ ps) is all = (λ live. all.0 (is.0.live live), part_still xs ys ps is.1 all.1)
 
-    pub takes_still : (xs ys : List X) (ps : List PartState) → AllTouch told v object xs ys → AllTakePart v xs ps → AllTakePart v ys ps
+    pub takes_still : (xs ys : List X) (ps : List PartView) → AllTouch told v object xs ys → AllTakePart v xs ps → AllTakePart v ys ps
     takes_still xs ys [] is all = tt
     takes_still xs ys (p ∷ ps) is all = part_still xs ys (p ∷ ps) is all
 
@@ -125,7 +125,7 @@ module _ {X : Type 0} (v : X → SeatView) where
     sound_at xs ys old new sound others here is q (inl same) = subst (λ r. IsSoundAt told v ys r (known_at new r)) (sym same) here
     sound_at xs ys old new sound others here is q (inr other) = subst (IsSoundAt told v ys q) (sym (others q other)) (sound_still q other xs ys (known_at old q) is (sound q))
 
-    pub leaves_others : (xs ys : List X) (old new : List (ObjectId × KnownState)) → AreSound told v xs old → ((q : ObjectId) → q ≢ object → known_at new q ≡ known_at old q) → IsSoundAt told v ys object (known_at new object) → AllTouch told v object xs ys → LeavesOthers told v object xs ys old new
+    pub leaves_others : (xs ys : List X) (old new : List (ObjectId × KnownState)) → AreSound told v xs old → ((q : ObjectId) → q ≢ object → known_at new q ≡ known_at old q) → IsSoundAt told v ys object (known_at new object) → AllTouch told v object xs ys → LeavesOtherObjects told v object xs ys old new
     leaves_others xs ys old new sound others here is = record {
       sound = λ q. sound_at xs ys old new sound others here is q (same_name q object);
       others = λ t q other. ap (λ o. told_of o (column v ys q)) (others q other) ∙ ap (told_of (known_at old q)) (touch_column xs ys is t q other);

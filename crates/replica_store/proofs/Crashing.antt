@@ -5,9 +5,9 @@ use Rattle.std.specs.List.{AllByRecursion, AllZip}
 use Rattle.gw_model.specs.declared.object.ObjectId.{ObjectId}
 use Rattle.append_store.specs.State.{ObjectState, Missing, Kept, Lent, IsAway, IsThere, IsCrashImage, MayCut}
 use Rattle.replica_store.specs.Kept.{NoneCalled}
-use Rattle.replica_store.specs.Parts.{PartState}
+use Rattle.replica_store.specs.Parts.{PartView}
 use Rattle.replica_store.specs.Reopening.{Awaits, CanLevel, Crashes, HasFront, IsOutOfNone}
-use Rattle.replica_store.specs.Seats.{SeatView, KnownState, AllTakePart, IsSoundAt, IsUnused, TakesPart, are_copies, column, counts_of, known_at, losses_of, is_given_up, none_live, state_of, told_by, told_of}
+use Rattle.replica_store.specs.Seats.{SeatView, KnownState, AllTakePart, IsSoundAt, IsUnused, TakesPart, are_copies, column, counts_of, known_at, losses_of, has_no_member, none_live, state_of, told_by, told_of}
 use Rattle.replica_store.specs.Objects.{AreSound, told_at}
 use Rattle.replica_store.proofs.Changes.{sum_later, sum_same}
 use Rattle.replica_store.proofs.Pairs.{weaker_pairs}
@@ -47,10 +47,10 @@ cut_inside (Kept bytes d) b (inr image) inside away = subst IsAway image.3 away
 cut_inside (Lent m) b (inr image) inside away = inside tt
 
 -- the member that tells an object, whether it is called or not
-module _ (told : Type 0) (q : ObjectId) (bytes : List ℕ) (synced : ℕ) (x y : SeatView) (p : PartState) (fits : FitsIn bytes synced p.live (x.at q)) (part : TakesPart x p) (crash : Crashes told x y) where
+module _ (told : Type 0) (q : ObjectId) (bytes : List ℕ) (synced : ℕ) (x y : SeatView) (p : PartView) (is_in_place : FitsIn bytes synced p.live (x.at q)) (part : TakesPart x p) (crash : Crashes told x y) where
   called_front : told → (d : ℕ) → x.at q ≡ Kept bytes d → (b : Bool) → x.live ≡ b → HasFront bytes (min synced (length bytes)) (y.at q)
   called_front t d is true on =
-      let copy = fits.copy (part on) in
+      let copy = is_in_place.copy (part on) in
       let more = copy.more in
       let same = kept_durable _ _ _ _ (sym is ∙ copy.kept) in
       may_front bytes (min synced (length bytes)) d (y.at q) (omega arith) (omega (arith, more, same)) (subst (λ s. MayCut s (y.at q)) is (crash.may t q))
@@ -60,10 +60,10 @@ module _ (told : Type 0) (q : ObjectId) (bytes : List ℕ) (synced : ℕ) (x y :
   chief_front t d is = called_front t d is x.live refl
 
   live_front : y.live ≡ true → told → HasFront bytes (min synced (length bytes)) (y.at q)
-  live_front live t = let copy = fits.copy (part (crash.live live)) in chief_front t copy.durable copy.kept
+  live_front live t = let copy = is_in_place.copy (part (crash.live live)) in chief_front t copy.durable copy.kept
 
   inside_front : told → IsAway (y.at q) → ⊥
-  inside_front t = cut_inside (x.at q) (y.at q) (crash.may t q) fits.inside
+  inside_front t = cut_inside (x.at q) (y.at q) (crash.may t q) is_in_place.inside
 
 abbrev pub AllCrash : {X : Type 0} → (X → SeatView) → Type 0 → List X → List X → Type 0
 AllCrash v told xs ys = AllZip (λ s t. Crashes told (v s) (v t)) xs ys
@@ -75,37 +75,37 @@ module _ {X : Type 0} (v : X → SeatView) (told : Type 0) (q : ObjectId) where
   many (x ∷ xs) [] is = absurd is
   many (x ∷ xs) (y ∷ ys) is = let e = many xs ys is.1 in omega (arith, e)
 
-  fit_many : (bytes : List ℕ) (synced : ℕ) (xs : List X) (ps : List PartState) → AllFit v q bytes synced xs ps → length ps ≡ length xs
+  fit_many : (bytes : List ℕ) (synced : ℕ) (xs : List X) (ps : List PartView) → AllFit v q bytes synced xs ps → length ps ≡ length xs
   fit_many bytes synced [] [] is = refl
   fit_many bytes synced [] (p ∷ ps) is = absurd is
   fit_many bytes synced (x ∷ xs) [] is = absurd is
   fit_many bytes synced (x ∷ xs) (p ∷ ps) is = let e = fit_many bytes synced xs ps is.1 in omega (arith, e)
 
-  parts_of : (bytes : List ℕ) (synced : ℕ) (xs : List X) (ps : List PartState) → AllFit v q bytes synced xs ps → AllTakePart v xs ps → AllZip (λ s p. TakesPart (v s) p) xs ps
-  parts_of bytes synced [] [] fits all = tt
-  parts_of bytes synced (x ∷ xs) [] fits all = absurd fits
-  parts_of bytes synced xs (p ∷ ps) fits all = all
+  parts_of : (bytes : List ℕ) (synced : ℕ) (xs : List X) (ps : List PartView) → AllFit v q bytes synced xs ps → AllTakePart v xs ps → AllZip (λ s p. TakesPart (v s) p) xs ps
+  parts_of bytes synced [] [] is_in_place all = tt
+  parts_of bytes synced (x ∷ xs) [] is_in_place all = absurd is_in_place
+  parts_of bytes synced xs (p ∷ ps) is_in_place all = all
 
-  fronts_now : (bytes : List ℕ) (synced : ℕ) (xs ys : List X) (ps : List PartState) → AllFit v q bytes synced xs ps → AllZip (λ s p. TakesPart (v s) p) xs ps → AllCrash v told xs ys → AllByRecursion (λ s. (v s).live ≡ true → told → HasFront bytes (min synced (length bytes)) ((v s).at q)) ys
-  fronts_now bytes synced [] [] ps fits parts crash = tt
-  fronts_now bytes synced [] (y ∷ ys) ps fits parts crash = absurd crash
-  fronts_now bytes synced (x ∷ xs) [] ps fits parts crash = absurd crash
-  fronts_now bytes synced (x ∷ xs) (y ∷ ys) [] fits parts crash = absurd fits
-  fronts_now bytes synced (x ∷ xs) (y ∷ ys) (p ∷ ps) fits parts crash = (live_front told q bytes synced (v x) (v y) p fits.0 parts.0 crash.0, fronts_now bytes synced xs ys ps fits.1 parts.1 crash.1)
+  fronts_now : (bytes : List ℕ) (synced : ℕ) (xs ys : List X) (ps : List PartView) → AllFit v q bytes synced xs ps → AllZip (λ s p. TakesPart (v s) p) xs ps → AllCrash v told xs ys → AllByRecursion (λ s. (v s).live ≡ true → told → HasFront bytes (min synced (length bytes)) ((v s).at q)) ys
+  fronts_now bytes synced [] [] ps is_in_place parts crash = tt
+  fronts_now bytes synced [] (y ∷ ys) ps is_in_place parts crash = absurd crash
+  fronts_now bytes synced (x ∷ xs) [] ps is_in_place parts crash = absurd crash
+  fronts_now bytes synced (x ∷ xs) (y ∷ ys) [] is_in_place parts crash = absurd is_in_place
+  fronts_now bytes synced (x ∷ xs) (y ∷ ys) (p ∷ ps) is_in_place parts crash = (live_front told q bytes synced (v x) (v y) p is_in_place.0 parts.0 crash.0, fronts_now bytes synced xs ys ps is_in_place.1 parts.1 crash.1)
 
-  inside_now : (bytes : List ℕ) (synced : ℕ) (xs ys : List X) (ps : List PartState) → AllFit v q bytes synced xs ps → AllZip (λ s p. TakesPart (v s) p) xs ps → AllCrash v told xs ys → IsOutOfNone told v q ys
-  inside_now bytes synced [] [] ps fits parts crash = tt
-  inside_now bytes synced [] (y ∷ ys) ps fits parts crash = absurd crash
-  inside_now bytes synced (x ∷ xs) [] ps fits parts crash = absurd crash
-  inside_now bytes synced (x ∷ xs) (y ∷ ys) [] fits parts crash = absurd fits
-  inside_now bytes synced (x ∷ xs) (y ∷ ys) (p ∷ ps) fits parts crash = (inside_front told q bytes synced (v x) (v y) p fits.0 parts.0 crash.0, inside_now bytes synced xs ys ps fits.1 parts.1 crash.1)
+  inside_now : (bytes : List ℕ) (synced : ℕ) (xs ys : List X) (ps : List PartView) → AllFit v q bytes synced xs ps → AllZip (λ s p. TakesPart (v s) p) xs ps → AllCrash v told xs ys → IsOutOfNone told v q ys
+  inside_now bytes synced [] [] ps is_in_place parts crash = tt
+  inside_now bytes synced [] (y ∷ ys) ps is_in_place parts crash = absurd crash
+  inside_now bytes synced (x ∷ xs) [] ps is_in_place parts crash = absurd crash
+  inside_now bytes synced (x ∷ xs) (y ∷ ys) [] is_in_place parts crash = absurd is_in_place
+  inside_now bytes synced (x ∷ xs) (y ∷ ys) (p ∷ ps) is_in_place parts crash = (inside_front told q bytes synced (v x) (v y) p is_in_place.0 parts.0 crash.0, inside_now bytes synced xs ys ps is_in_place.1 parts.1 crash.1)
 
-  chief_now : (bytes : List ℕ) (synced d : ℕ) (xs ys : List X) (ps : List PartState) (k : ℕ) → AllFit v q bytes synced xs ps → AllZip (λ s p. TakesPart (v s) p) xs ps → AllCrash v told xs ys → told → state_of (column v xs q) k ≡ Kept bytes d → HasFront bytes (min synced (length bytes)) (state_of (column v ys q) k)
-  chief_now bytes synced d [] ys ps k fits parts crash t is = absurd (cc)
-  chief_now bytes synced d (x ∷ xs) [] ps k fits parts crash t is = absurd crash
-  chief_now bytes synced d (x ∷ xs) (y ∷ ys) [] k fits parts crash t is = absurd fits
-  chief_now bytes synced d (x ∷ xs) (y ∷ ys) (p ∷ ps) zero fits parts crash t is = chief_front told q bytes synced (v x) (v y) p fits.0 parts.0 crash.0 t d is
-  chief_now bytes synced d (x ∷ xs) (y ∷ ys) (p ∷ ps) (suc k) fits parts crash t is = chief_now bytes synced d xs ys ps k fits.1 parts.1 crash.1 t is
+  chief_now : (bytes : List ℕ) (synced d : ℕ) (xs ys : List X) (ps : List PartView) (k : ℕ) → AllFit v q bytes synced xs ps → AllZip (λ s p. TakesPart (v s) p) xs ps → AllCrash v told xs ys → told → state_of (column v xs q) k ≡ Kept bytes d → HasFront bytes (min synced (length bytes)) (state_of (column v ys q) k)
+  chief_now bytes synced d [] ys ps k is_in_place parts crash t is = absurd (cc)
+  chief_now bytes synced d (x ∷ xs) [] ps k is_in_place parts crash t is = absurd crash
+  chief_now bytes synced d (x ∷ xs) (y ∷ ys) [] k is_in_place parts crash t is = absurd is_in_place
+  chief_now bytes synced d (x ∷ xs) (y ∷ ys) (p ∷ ps) zero is_in_place parts crash t is = chief_front told q bytes synced (v x) (v y) p is_in_place.0 parts.0 crash.0 t d is
+  chief_now bytes synced d (x ∷ xs) (y ∷ ys) (p ∷ ps) (suc k) is_in_place parts crash t is = chief_now bytes synced d xs ys ps k is_in_place.1 parts.1 crash.1 t is
 
   missing_cut : (a b : ObjectState) → a ≡ Missing → MayCut a b → b ≡ Missing
   missing_cut a b is (inl same) = same ∙ is
@@ -131,20 +131,20 @@ module _ {X : Type 0} (v : X → SeatView) (told : Type 0) (q : ObjectId) where
   rest_off true b is = absurd (cc)
   rest_off false b is = is
 
-  none_called : (xs ys : List X) (ps : List PartState) → none_live ps ≡ true → AllZip (λ s p. TakesPart (v s) p) xs ps → AllCrash v told xs ys → NoneCalled v ys
+  none_called : (xs ys : List X) (ps : List PartView) → none_live ps ≡ true → AllZip (λ s p. TakesPart (v s) p) xs ps → AllCrash v told xs ys → NoneCalled v ys
   none_called [] [] ps none parts crash = tt
   none_called [] (y ∷ ys) ps none parts crash = absurd crash
   none_called (x ∷ xs) [] ps none parts crash = absurd crash
   none_called (x ∷ xs) (y ∷ ys) [] none parts crash = absurd parts
   none_called (x ∷ xs) (y ∷ ys) (p ∷ ps) none parts crash = (off (v y).live (v x).live p.live crash.0.live parts.0 (first_off p.live (none_live ps) none), none_called xs ys ps (rest_off p.live (none_live ps) none) parts.1 crash.1)
 
-  many_parts : (xs : List X) (ps : List PartState) → AllZip (λ s p. TakesPart (v s) p) xs ps → length ps ≡ length xs
+  many_parts : (xs : List X) (ps : List PartView) → AllZip (λ s p. TakesPart (v s) p) xs ps → length ps ≡ length xs
   many_parts [] [] is = refl
   many_parts [] (p ∷ ps) is = absurd is
   many_parts (x ∷ xs) [] is = absurd is
   many_parts (x ∷ xs) (p ∷ ps) is = let e = many_parts xs ps is.1 in omega (arith, e)
 
-  given_up_none : (xs ys : List X) (ps : List PartState) → is_given_up ps ≡ true → AllTakePart v xs ps → AllCrash v told xs ys → NoneCalled v ys × (0 < length ys) × (length ps ≡ length ys)
+  given_up_none : (xs ys : List X) (ps : List PartView) → has_no_member ps ≡ true → AllTakePart v xs ps → AllCrash v told xs ys → NoneCalled v ys × (0 < length ys) × (length ps ≡ length ys)
   given_up_none xs ys [] is all crash = absurd (cc)
   given_up_none xs ys (p ∷ ps) is all crash =
       let a = many_parts xs (p ∷ ps) all in
@@ -158,7 +158,7 @@ module _ {X : Type 0} (v : X → SeatView) (told : Type 0) (q : ObjectId) where
   module _ (xs ys : List X) (crash : AllCrash v told xs ys) where
     awaits_by : (k : KnownState) (s : ObjectState) → state_of (column v xs q) k.chief ≡ s → AllTakePart v xs k.parts → told → (IsAway (told_by k (column v xs q) s) → ⊥) → Awaits told v q ys (Some k) (told_by k (column v xs q) s)
     awaits_by k Missing is all t inside =
-        let up = if_away (is_given_up k.parts) Missing inside in
+        let up = if_away (has_no_member k.parts) Missing inside in
         let none = given_up_none xs ys k.parts up all crash in
         subst (λ b. Awaits told v q ys (Some k) (if b then Missing else Lent [])) (sym up) (record {
           none = none.0;
@@ -168,13 +168,13 @@ module _ {X : Type 0} (v : X → SeatView) (told : Type 0) (q : ObjectId) where
         })
     awaits_by k (Kept bytes d) is all t inside =
         let yes = if_away (are_copies bytes k.synced k.parts (column v xs q)) (Kept bytes (min k.synced (length bytes))) inside in
-        let fits = copies_fit v q bytes k.synced xs k.parts yes in
-        let parts = parts_of bytes k.synced xs k.parts fits all in
+        let is_in_place = copies_fit v q bytes k.synced xs k.parts yes in
+        let parts = parts_of bytes k.synced xs k.parts is_in_place all in
         subst (λ b. Awaits told v q ys (Some k) (if b then Kept bytes (min k.synced (length bytes)) else Lent [])) (sym yes) (record {
-          chief = λ u. chief_now bytes k.synced d xs ys k.parts k.chief fits parts crash u is;
-          fronts = fronts_now bytes k.synced xs ys k.parts fits parts crash;
-          inside = inside_now bytes k.synced xs ys k.parts fits parts crash;
-          places = λ u. let a = fit_many bytes k.synced xs k.parts fits in let b = many xs ys crash in omega (arith, a, b);
+          chief = λ u. chief_now bytes k.synced d xs ys k.parts k.chief is_in_place parts crash u is;
+          fronts = fronts_now bytes k.synced xs ys k.parts is_in_place parts crash;
+          inside = inside_now bytes k.synced xs ys k.parts is_in_place parts crash;
+          places = λ u. let a = fit_many bytes k.synced xs k.parts is_in_place in let b = many xs ys crash in omega (arith, a, b);
           low = λ u. copies_low v q bytes k.synced xs k.parts yes;
         })
     awaits_by k (Lent m) is all t inside = absurd (inside tt)
@@ -208,26 +208,26 @@ module _ {X : Type 0} (v : X → SeatView) (told : Type 0) (q : ObjectId) where
     crash_can (Some k) sound inside = turn ys (λ t. there_by k (told_of (Some k) (column v xs q)) (crash_awaits (Some k) sound t (inside t)))
 
   -- before the crash the object is out of no member that is called
-  called_inside : (xs : List X) (ps : List PartState) → none_live ps ≡ true → AllZip (λ s p. TakesPart (v s) p) xs ps → AllByRecursion (λ s. (v s).live ≡ true → IsAway ((v s).at q) → ⊥) xs
+  called_inside : (xs : List X) (ps : List PartView) → none_live ps ≡ true → AllZip (λ s p. TakesPart (v s) p) xs ps → AllByRecursion (λ s. (v s).live ≡ true → IsAway ((v s).at q) → ⊥) xs
   called_inside [] ps none parts = tt
   called_inside (x ∷ xs) [] none parts = absurd parts
   called_inside (x ∷ xs) (p ∷ ps) none parts = (λ live. absurd (let on = parts.0 live in let dead = first_off p.live (none_live ps) none in cc), called_inside xs ps (rest_off p.live (none_live ps) none) parts.1)
 
-  given_up_inside : (xs : List X) (ps : List PartState) → is_given_up ps ≡ true → AllTakePart v xs ps → AllByRecursion (λ s. (v s).live ≡ true → IsAway ((v s).at q) → ⊥) xs
+  given_up_inside : (xs : List X) (ps : List PartView) → has_no_member ps ≡ true → AllTakePart v xs ps → AllByRecursion (λ s. (v s).live ≡ true → IsAway ((v s).at q) → ⊥) xs
   given_up_inside xs [] is all = absurd (cc)
   given_up_inside xs (p ∷ ps) is all = called_inside xs (p ∷ ps) is all
 
-  fits_inside : (bytes : List ℕ) (synced : ℕ) (xs : List X) (ps : List PartState) → AllFit v q bytes synced xs ps → AllByRecursion (λ s. (v s).live ≡ true → IsAway ((v s).at q) → ⊥) xs
-  fits_inside bytes synced [] ps fits = tt
-  fits_inside bytes synced (x ∷ xs) [] fits = absurd fits
-  fits_inside bytes synced (x ∷ xs) (p ∷ ps) fits = (λ live. fits.0.inside, fits_inside bytes synced xs ps fits.1)
+  fits_inside : (bytes : List ℕ) (synced : ℕ) (xs : List X) (ps : List PartView) → AllFit v q bytes synced xs ps → AllByRecursion (λ s. (v s).live ≡ true → IsAway ((v s).at q) → ⊥) xs
+  fits_inside bytes synced [] ps is_in_place = tt
+  fits_inside bytes synced (x ∷ xs) [] is_in_place = absurd is_in_place
+  fits_inside bytes synced (x ∷ xs) (p ∷ ps) is_in_place = (λ live. is_in_place.0.inside, fits_inside bytes synced xs ps is_in_place.1)
 
   unused_inside : (xs : List X) → AllByRecursion (λ s. IsUnused told q (v s)) xs → told → AllByRecursion (λ s. (v s).live ≡ true → IsAway ((v s).at q) → ⊥) xs
   unused_inside [] all t = tt
   unused_inside (x ∷ xs) all t = (λ live. all.0.inside t, unused_inside xs all.1 t)
 
   inside_by : (xs : List X) (k : KnownState) (s : ObjectState) → AllTakePart v xs k.parts → (IsAway (told_by k (column v xs q) s) → ⊥) → AllByRecursion (λ s. (v s).live ≡ true → IsAway ((v s).at q) → ⊥) xs
-  inside_by xs k Missing all inside = given_up_inside xs k.parts (if_away (is_given_up k.parts) Missing inside) all
+  inside_by xs k Missing all inside = given_up_inside xs k.parts (if_away (has_no_member k.parts) Missing inside) all
   inside_by xs k (Kept bytes d) all inside =
       let yes = if_away (are_copies bytes k.synced k.parts (column v xs q)) (Kept bytes (min k.synced (length bytes))) inside in
       fits_inside bytes k.synced xs k.parts (copies_fit v q bytes k.synced xs k.parts yes)
@@ -250,14 +250,14 @@ module _ {X : Type 0} (v : X → SeatView) (told : Type 0) (q : ObjectId) where
     unused_still xs ys crash.1 all.1,
   )
 
-  parts_still : (xs ys : List X) (ps : List PartState) → AllCrash v told xs ys → AllZip (λ s p. TakesPart (v s) p) xs ps → AllZip (λ s p. TakesPart (v s) p) ys ps
+  parts_still : (xs ys : List X) (ps : List PartView) → AllCrash v told xs ys → AllZip (λ s p. TakesPart (v s) p) xs ps → AllZip (λ s p. TakesPart (v s) p) ys ps
   parts_still [] [] ps crash all = all
   parts_still [] (y ∷ ys) ps crash all = absurd crash
   parts_still (x ∷ xs) [] ps crash all = absurd crash
   parts_still (x ∷ xs) (y ∷ ys) [] crash all = absurd all
   parts_still (x ∷ xs) (y ∷ ys) (p ∷ ps) crash all = (λ live. all.0 (crash.0.live live), parts_still xs ys ps crash.1 all.1)
 
-  takes_still : (xs ys : List X) (ps : List PartState) → AllCrash v told xs ys → AllTakePart v xs ps → AllTakePart v ys ps
+  takes_still : (xs ys : List X) (ps : List PartView) → AllCrash v told xs ys → AllTakePart v xs ps → AllTakePart v ys ps
   takes_still xs ys [] crash all = tt
   takes_still xs ys (p ∷ ps) crash all = parts_still xs ys (p ∷ ps) crash all
 

@@ -3,7 +3,7 @@ use Rattle.std.proofs.Common.{◌≡◌, ◌≤◌, ℕ, zero, suc, true, List, 
 use Rattle.std.specs.List.{AllByRecursion, AllZip}
 use Rattle.gw_model.specs.declared.object.ObjectId.{ObjectId}
 use Rattle.append_store.specs.State.{Kept}
-use Rattle.replica_store.specs.Parts.{PartState}
+use Rattle.replica_store.specs.Parts.{PartView}
 use Rattle.replica_store.specs.Seats.{SeatView, AllTakePart, TakesPart, IsCalledAt, column, losses_of, state_of}
 use Rattle.replica_store.specs.Steps.{IsTried, Makes, Together, Unmakes}
 use Rattle.replica_store.specs.Kept.{AllTouch, AllUnused, NoneCalled, told_now}
@@ -13,19 +13,19 @@ use Rattle.replica_store.proofs.Told.{AllFit, IsKept, IsCopyOf, told_kept}
 use Rattle.replica_store.proofs.Changes.{sum_later}
 
 module _ {X : Type 0} (v : X → SeatView) (told : Type 0) (object : ObjectId) where
-  abbrev R : X → X → PartState → PartState → Type 0
+  abbrev R : X → X → PartView → PartView → Type 0
   R s t p q = Makes told object (v s) (v t) p q
 
   abbrev U : X → X → Type 0
   U s t = Unmakes told object (v s) (v t)
 
-  pub make_touched : (xs ys : List X) (ps qs : List PartState) → Together R xs ys ps qs → AllTouch told v object xs ys
+  pub make_touched : (xs ys : List X) (ps qs : List PartView) → Together R xs ys ps qs → AllTouch told v object xs ys
   make_touched xs ys ps qs is = members_of R _ (λ x y p q r. r.rest) xs ys ps qs is
 
-  pub make_tried : (xs ys : List X) (ps qs : List PartState) → Together R xs ys ps qs → AllByRecursion (λ s. IsTried told object (v s)) ys
+  pub make_tried : (xs ys : List X) (ps qs : List PartView) → Together R xs ys ps qs → AllByRecursion (λ s. IsTried told object (v s)) ys
   make_tried xs ys ps qs is = seats_seats R _ (λ x y p q r. r.tried) xs ys ps qs is
 
-  pub make_losses : (xs ys : List X) (ps qs : List PartState) → Together R xs ys ps qs → told → losses_of v xs object ≤ losses_of v ys object
+  pub make_losses : (xs ys : List X) (ps qs : List PartView) → Together R xs ys ps qs → told → losses_of v xs object ≤ losses_of v ys object
   make_losses xs ys ps qs is t = sum_later (λ s. (v s).losses object) xs ys (members_of R _ (λ x y p q r. r.losses t) xs ys ps qs is)
 
   -- what was made is gone again
@@ -69,7 +69,7 @@ module _ {X : Type 0} (v : X → SeatView) (told : Type 0) (object : ObjectId) w
   made_one : (s : SeatView) → IsTried told object s → (s.live ≡ true → s.made ≡ true) → told → s.live ≡ true → IsCopyOf [] 0 (s.at object)
   made_one s tried made t live = record { durable = 0; kept = tried.made t live (made live); more = omega arith }
 
-  made_fit : (xs ys : List X) (ps qs : List PartState) → Together R xs ys ps qs → AllByRecursion (λ s. (v s).live ≡ true → (v s).made ≡ true) ys → told → AllFit v object [] 0 ys qs
+  made_fit : (xs ys : List X) (ps qs : List PartView) → Together R xs ys ps qs → AllByRecursion (λ s. (v s).live ≡ true → (v s).made ≡ true) ys → told → AllFit v object [] 0 ys qs
   made_fit [] [] [] [] is made t = tt
   made_fit [] [] [] (q ∷ qs) is made t = absurd is
   made_fit [] [] (p ∷ ps) qs is made t = absurd is
@@ -90,7 +90,7 @@ module _ {X : Type 0} (v : X → SeatView) (told : Type 0) (object : ObjectId) w
   made_chief (y ∷ ys) zero tried made t at = tried.0.made t at (made.0 at)
   made_chief (y ∷ ys) (suc k) tried made t at = made_chief ys k tried.1 made.1 t at
 
-  made_part : (xs ys : List X) (ps qs : List PartState) → Together R xs ys ps qs → AllZip (λ s p. TakesPart (v s) p) ys qs
+  made_part : (xs ys : List X) (ps qs : List PartView) → Together R xs ys ps qs → AllZip (λ s p. TakesPart (v s) p) ys qs
   made_part [] [] [] [] is = tt
   made_part [] [] [] (q ∷ qs) is = absurd is
   made_part [] [] (p ∷ ps) qs is = absurd is
@@ -100,11 +100,11 @@ module _ {X : Type 0} (v : X → SeatView) (told : Type 0) (object : ObjectId) w
   made_part (x ∷ xs) (y ∷ ys) (p ∷ ps) [] is = absurd is
   made_part (x ∷ xs) (y ∷ ys) (p ∷ ps) (q ∷ qs) is = (λ live. is.0.flag ∙ live, made_part xs ys ps qs is.1)
 
-  pub take_part : (xs ys : List X) (ps qs : List PartState) → Together R xs ys ps qs → AllTakePart v ys qs
+  pub take_part : (xs ys : List X) (ps qs : List PartView) → Together R xs ys ps qs → AllTakePart v ys qs
   take_part xs ys ps [] is = tt
   take_part xs ys ps (q ∷ qs) is = made_part xs ys ps (q ∷ qs) is
 
-  pub made_told : (xs ys : List X) (ps qs : List PartState) (first : ℕ) → Together R xs ys ps qs → AllByRecursion (λ s. (v s).live ≡ true → (v s).made ≡ true) ys → IsCalledAt v ys first → told → told_now v object ys (record { chief = first; synced = 0; parts = qs }) ≡ Kept [] 0
+  pub made_told : (xs ys : List X) (ps qs : List PartView) (first : ℕ) → Together R xs ys ps qs → AllByRecursion (λ s. (v s).live ≡ true → (v s).made ≡ true) ys → IsCalledAt v ys first → told → told_now v object ys (record { chief = first; synced = 0; parts = qs }) ≡ Kept [] 0
   made_told xs ys ps qs first is made at t =
       let now : IsKept v object (record { chief = first; synced = 0; parts = qs }) ys [] = record {
         durable = 0;

@@ -5,8 +5,8 @@ use Rattle.std.specs.List.{AllByRecursion, AllZip}
 use Rattle.gw_model.specs.declared.object.ObjectId.{ObjectId}
 use Rattle.append_store.specs.State.{ObjectState, Missing, Kept, Lent, IsAway, IsThere, durable_of, bytes_of}
 use Rattle.append_store.specs.Calls.{Guards}
-use Rattle.replica_store.specs.Parts.{PartState}
-use Rattle.replica_store.specs.Seats.{SeatView, KnownState, AllTakePart, TakesPart, IsCalledAt, column, is_given_up, losses_of, none_live, state_of, told_by}
+use Rattle.replica_store.specs.Parts.{PartView}
+use Rattle.replica_store.specs.Seats.{SeatView, KnownState, AllTakePart, TakesPart, IsCalledAt, column, has_no_member, losses_of, none_live, state_of, told_by}
 use Rattle.replica_store.specs.Steps.{Deletes, Together}
 use Rattle.replica_store.specs.Kept.{AllTouch, AllUnused, Deleted, NoneCalled, told_now}
 use Rattle.replica_store.proofs.InTurn.{members_of, as_many}
@@ -18,7 +18,7 @@ under told P [] all = tt
 under told P (x ∷ xs) all = (λ t. (all t).0, under told P xs (λ t. (all t).1))
 
 module _ {X : Type 0} (v : X → SeatView) where
-  pub zip_part : (xs : List X) (ps : List PartState) → length ps ≡ length xs → AllTakePart v xs ps → AllZip (λ s p. TakesPart (v s) p) xs ps
+  pub zip_part : (xs : List X) (ps : List PartView) → length ps ≡ length xs → AllTakePart v xs ps → AllZip (λ s p. TakesPart (v s) p) xs ps
   zip_part [] [] long all = tt
   zip_part (x ∷ xs) [] long all = absurd (omega (arith, long))
   zip_part xs (p ∷ ps) long all = all
@@ -30,7 +30,7 @@ zip_many R (x ∷ xs) [] is = absurd is
 zip_many R (x ∷ xs) (p ∷ ps) is = let n = zip_many R xs ps is.1 in omega (arith, n)
 
 module _ {X : Type 0} (v : X → SeatView) (object : ObjectId) where
-  fit_there : (bytes : List ℕ) (synced : ℕ) (xs : List X) (ps : List PartState) → AllFit v object bytes synced xs ps → AllZip (λ s p. TakesPart (v s) p) xs ps → AllByRecursion (λ s. (v s).live ≡ true → IsThere ((v s).at object)) xs
+  fit_there : (bytes : List ℕ) (synced : ℕ) (xs : List X) (ps : List PartView) → AllFit v object bytes synced xs ps → AllZip (λ s p. TakesPart (v s) p) xs ps → AllByRecursion (λ s. (v s).live ≡ true → IsThere ((v s).at object)) xs
   fit_there bytes synced [] [] fit part = tt
   fit_there bytes synced [] (p ∷ ps) fit part = absurd fit
   fit_there bytes synced (x ∷ xs) [] fit part = absurd fit
@@ -43,7 +43,7 @@ module _ {X : Type 0} (v : X → SeatView) (object : ObjectId) where
       fit_there (bytes_of (state_of (column v xs object) k.chief)) k.synced xs k.parts kept.all (zip_part v xs k.parts (zip_many _ xs k.parts kept.all) part))
 
   -- and out of none
-  pub fit_inside : (bytes : List ℕ) (synced : ℕ) (xs : List X) (ps : List PartState) → AllFit v object bytes synced xs ps → AllByRecursion (λ s. IsAway ((v s).at object) → ⊥) xs
+  pub fit_inside : (bytes : List ℕ) (synced : ℕ) (xs : List X) (ps : List PartView) → AllFit v object bytes synced xs ps → AllByRecursion (λ s. IsAway ((v s).at object) → ⊥) xs
   fit_inside bytes synced [] [] fit = tt
   fit_inside bytes synced [] (p ∷ ps) fit = absurd fit
   fit_inside bytes synced (x ∷ xs) [] fit = absurd fit
@@ -55,17 +55,17 @@ module _ {X : Type 0} (v : X → SeatView) (object : ObjectId) where
       fit_inside (bytes_of (state_of (column v xs object) k.chief)) k.synced xs k.parts kept.all)
 
 module _ {X : Type 0} (v : X → SeatView) (told : Type 0) (object : ObjectId) where
-  abbrev R : X → X → PartState → PartState → Type 0
+  abbrev R : X → X → PartView → PartView → Type 0
   R s t p q = Deletes told object (v s) (v t) p q
 
-  pub delete_touched : (xs ys : List X) (ps qs : List PartState) → Together R xs ys ps qs → AllTouch told v object xs ys
+  pub delete_touched : (xs ys : List X) (ps qs : List PartView) → Together R xs ys ps qs → AllTouch told v object xs ys
   delete_touched xs ys ps qs is = members_of R _ (λ x y p q r. r.rest) xs ys ps qs is
 
   may_inside : (a b : ObjectState) → (b ≡ a) ⊎ (b ≡ Missing) → (IsAway a → ⊥) → IsAway b → ⊥
   may_inside a b (inl same) none away = none (subst IsAway same away)
   may_inside a b (inr gone) none away = subst IsAway gone away
 
-  delete_unused : (xs ys : List X) (ps qs : List PartState) → Together R xs ys ps qs → AllByRecursion (λ s. told → IsAway ((v s).at object) → ⊥) xs → AllUnused told v object ys
+  delete_unused : (xs ys : List X) (ps qs : List PartView) → Together R xs ys ps qs → AllByRecursion (λ s. told → IsAway ((v s).at object) → ⊥) xs → AllUnused told v object ys
   delete_unused [] [] [] [] is inside = tt
   delete_unused [] [] [] (q ∷ qs) is inside = absurd is
   delete_unused [] [] (p ∷ ps) qs is inside = absurd is
@@ -81,7 +81,7 @@ module _ {X : Type 0} (v : X → SeatView) (told : Type 0) (object : ObjectId) w
     delete_unused xs ys ps qs is.1 inside.1,
   )
 
-  losses_later : (xs ys : List X) (ps qs : List PartState) → Together R xs ys ps qs → told → losses_of v xs object ≤ losses_of v ys object
+  losses_later : (xs ys : List X) (ps qs : List PartView) → Together R xs ys ps qs → told → losses_of v xs object ≤ losses_of v ys object
   losses_later [] [] [] [] is t = omega arith
   losses_later [] [] [] (q ∷ qs) is t = absurd is
   losses_later [] [] (p ∷ ps) qs is t = absurd is
@@ -100,7 +100,7 @@ module _ {X : Type 0} (v : X → SeatView) (told : Type 0) (object : ObjectId) w
   nothing_kept : (synced e : ℕ) (bytes : List ℕ) (a b : ObjectState) → synced ≤ e → a ≡ Kept bytes e → b ≡ Missing → durable_of a ≤ durable_of b → synced ≤ 0
   nothing_kept synced e bytes a b more kept gone held = let x = ap durable_of kept in let y = ap durable_of gone in omega (arith, more, x, y, held)
 
-  lost_nothing : (bytes : List ℕ) (synced : ℕ) (xs ys : List X) (ps qs : List PartState) (k : ℕ) → Together R xs ys ps qs → AllFit v object bytes synced xs ps → AllZip (λ s p. TakesPart (v s) p) xs ps → told → IsCalledAt v ys k → losses_of v xs object ≡ losses_of v ys object → synced ≤ 0
+  lost_nothing : (bytes : List ℕ) (synced : ℕ) (xs ys : List X) (ps qs : List PartView) (k : ℕ) → Together R xs ys ps qs → AllFit v object bytes synced xs ps → AllZip (λ s p. TakesPart (v s) p) xs ps → told → IsCalledAt v ys k → losses_of v xs object ≡ losses_of v ys object → synced ≤ 0
   lost_nothing bytes synced [] [] [] [] k is fit part t at same = absurd at
   lost_nothing bytes synced [] [] [] (q ∷ qs) k is fit part t at same = absurd is
   lost_nothing bytes synced [] [] (p ∷ ps) qs k is fit part t at same = absurd is
@@ -122,7 +122,7 @@ module _ {X : Type 0} (v : X → SeatView) (told : Type 0) (object : ObjectId) w
   told_none k xs bytes kept none = let e = ap durable_of (told_kept v object k xs bytes kept) in omega (arith, e, none)
 
   -- a member is still called
-  pub deleted_some : (xs ys : List X) (k : KnownState) (qs : List PartState) (first : ℕ) → Together R xs ys k.parts qs → (told → IsThere (told_now v object xs k)) → AllTakePart v xs k.parts → length k.parts ≡ length xs → IsCalledAt v ys first → AllUnused told v object ys × (told → Guards (told_now v object xs k) Missing (losses_of v xs object) (losses_of v ys object))
+  pub deleted_some : (xs ys : List X) (k : KnownState) (qs : List PartView) (first : ℕ) → Together R xs ys k.parts qs → (told → IsThere (told_now v object xs k)) → AllTakePart v xs k.parts → length k.parts ≡ length xs → IsCalledAt v ys first → AllUnused told v object ys × (told → Guards (told_now v object xs k) Missing (losses_of v xs object) (losses_of v ys object))
   deleted_some xs ys k qs first is there part long at = (
     delete_unused xs ys k.parts qs is (inside_each v object told xs k there),
     λ t. record {
@@ -134,7 +134,7 @@ module _ {X : Type 0} (v : X → SeatView) (told : Type 0) (object : ObjectId) w
   )
 
   -- none is called any more
-  none_fit : (bytes : List ℕ) (synced : ℕ) (xs ys : List X) (ps qs : List PartState) → Together R xs ys ps qs → AllFit v object bytes synced xs ps → NoneCalled v ys → told → AllFit v object bytes synced ys qs
+  none_fit : (bytes : List ℕ) (synced : ℕ) (xs ys : List X) (ps qs : List PartView) → Together R xs ys ps qs → AllFit v object bytes synced xs ps → NoneCalled v ys → told → AllFit v object bytes synced ys qs
   none_fit bytes synced [] [] [] [] is fit none t = tt
   none_fit bytes synced [] [] [] (q ∷ qs) is fit none t = absurd is
   none_fit bytes synced [] [] (p ∷ ps) qs is fit none t = absurd is
@@ -150,7 +150,7 @@ module _ {X : Type 0} (v : X → SeatView) (told : Type 0) (object : ObjectId) w
     none_fit bytes synced xs ys ps qs is.1 fit.1 none.1 t,
   )
 
-  none_part : (xs ys : List X) (ps qs : List PartState) → Together R xs ys ps qs → AllZip (λ s p. TakesPart (v s) p) ys qs
+  none_part : (xs ys : List X) (ps qs : List PartView) → Together R xs ys ps qs → AllZip (λ s p. TakesPart (v s) p) ys qs
   none_part [] [] [] [] is = tt
   none_part [] [] [] (q ∷ qs) is = absurd is
   none_part [] [] (p ∷ ps) qs is = absurd is
@@ -160,7 +160,7 @@ module _ {X : Type 0} (v : X → SeatView) (told : Type 0) (object : ObjectId) w
   none_part (x ∷ xs) (y ∷ ys) (p ∷ ps) [] is = absurd is
   none_part (x ∷ xs) (y ∷ ys) (p ∷ ps) (q ∷ qs) is = (λ live. is.0.flag ∙ live, none_part xs ys ps qs is.1)
 
-  all_off : (xs ys : List X) (ps qs : List PartState) → Together R xs ys ps qs → NoneCalled v ys → none_live qs ≡ true
+  all_off : (xs ys : List X) (ps qs : List PartView) → Together R xs ys ps qs → NoneCalled v ys → none_live qs ≡ true
   all_off [] [] [] [] is none = refl
   all_off [] [] [] (q ∷ qs) is none = absurd is
   all_off [] [] (p ∷ ps) qs is none = absurd is
@@ -170,7 +170,7 @@ module _ {X : Type 0} (v : X → SeatView) (told : Type 0) (object : ObjectId) w
   all_off (x ∷ xs) (y ∷ ys) (p ∷ ps) [] is none = absurd is
   all_off (x ∷ xs) (y ∷ ys) (p ∷ ps) (q ∷ qs) is none = rw (is.0.flag ∙ none.0, all_off xs ys ps qs is.1 none.1) refl
 
-  gives_up : (qs : List PartState) → 0 < length qs → none_live qs ≡ true → is_given_up qs ≡ true
+  gives_up : (qs : List PartView) → 0 < length qs → none_live qs ≡ true → has_no_member qs ≡ true
   gives_up [] some off = absurd (omega (arith, some))
   gives_up (q ∷ qs) some off = off
 
@@ -178,7 +178,7 @@ module _ {X : Type 0} (v : X → SeatView) (told : Type 0) (object : ObjectId) w
   some_seat [] k bytes e is = absurd (cc)
   some_seat (x ∷ xs) k bytes e is = omega arith
 
-  chief_may : (xs ys : List X) (ps qs : List PartState) (k : ℕ) → Together R xs ys ps qs → told → (state_of (column v ys object) k ≡ state_of (column v xs object) k) ⊎ (state_of (column v ys object) k ≡ Missing)
+  chief_may : (xs ys : List X) (ps qs : List PartView) (k : ℕ) → Together R xs ys ps qs → told → (state_of (column v ys object) k ≡ state_of (column v xs object) k) ⊎ (state_of (column v ys object) k ≡ Missing)
   chief_may [] [] [] [] k is t = inl refl
   chief_may [] [] [] (q ∷ qs) k is t = absurd is
   chief_may [] [] (p ∷ ps) qs k is t = absurd is
@@ -189,7 +189,7 @@ module _ {X : Type 0} (v : X → SeatView) (told : Type 0) (object : ObjectId) w
   chief_may (x ∷ xs) (y ∷ ys) (p ∷ ps) (q ∷ qs) zero is t = is.0.may t
   chief_may (x ∷ xs) (y ∷ ys) (p ∷ ps) (q ∷ qs) (suc k) is t = chief_may xs ys ps qs k is.1 t
 
-  chief_lost : (bytes : List ℕ) (synced e : ℕ) (xs ys : List X) (ps qs : List PartState) (k : ℕ) → Together R xs ys ps qs → AllFit v object bytes synced xs ps → AllZip (λ s p. TakesPart (v s) p) xs ps → told → state_of (column v xs object) k ≡ Kept bytes e → state_of (column v ys object) k ≡ Missing → losses_of v xs object ≡ losses_of v ys object → synced ≤ 0
+  chief_lost : (bytes : List ℕ) (synced e : ℕ) (xs ys : List X) (ps qs : List PartView) (k : ℕ) → Together R xs ys ps qs → AllFit v object bytes synced xs ps → AllZip (λ s p. TakesPart (v s) p) xs ps → told → state_of (column v xs object) k ≡ Kept bytes e → state_of (column v ys object) k ≡ Missing → losses_of v xs object ≡ losses_of v ys object → synced ≤ 0
   chief_lost bytes synced e [] [] [] [] k is fit part t kept gone same = absurd (cc)
   chief_lost bytes synced e [] [] [] (q ∷ qs) k is fit part t kept gone same = absurd is
   chief_lost bytes synced e [] [] (p ∷ ps) qs k is fit part t kept gone same = absurd is
@@ -211,18 +211,18 @@ module _ {X : Type 0} (v : X → SeatView) (told : Type 0) (object : ObjectId) w
       let h = head_same x y xs ys g.later (losses_later xs ys ps qs is.1 t) same in
       chief_lost bytes synced e xs ys ps qs k is.1 fit.1 part.1 t kept gone h.1
 
-  take_part : (xs ys : List X) (ps qs : List PartState) → Together R xs ys ps qs → AllTakePart v ys qs
+  take_part : (xs ys : List X) (ps qs : List PartView) → Together R xs ys ps qs → AllTakePart v ys qs
   take_part xs ys ps [] is = tt
   take_part xs ys ps (q ∷ qs) is = none_part xs ys ps (q ∷ qs) is
 
-  module _ (xs ys : List X) (chief synced : ℕ) (ps qs : List PartState) where
+  module _ (xs ys : List X) (chief synced : ℕ) (ps qs : List PartView) where
     abbrev before : KnownState
     before = record { chief = chief; synced = synced; parts = ps }
 
     abbrev after : KnownState
     after = record { chief = chief; synced = synced; parts = qs }
 
-    given_up : Together R xs ys ps qs → NoneCalled v ys → (bytes : List ℕ) → IsKept v object before xs bytes → is_given_up qs ≡ true
+    given_up : Together R xs ys ps qs → NoneCalled v ys → (bytes : List ℕ) → IsKept v object before xs bytes → has_no_member qs ≡ true
     given_up is none bytes kept =
         let some = some_seat xs chief bytes kept.durable kept.chief in
         let n = as_many R xs ys ps qs is in

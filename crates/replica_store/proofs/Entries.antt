@@ -6,10 +6,10 @@ use Rattle.gw_outside.specs.Causes.{Carries}
 use Rattle.append_store.specs.State.{ObjectState, Missing, Kept, Lent, IsThere, durable_of}
 use Rattle.append_store.specs.Calls.{Creates, Guards}
 use Rattle.replica_store.specs.Marks.{joined, one_mark}
-use Rattle.replica_store.specs.Parts.{FilesState, PartState, AreCopies, counts, one_if, part_of}
-use Rattle.replica_store.specs.Seats.{SeatView, KnownState, AllTakePart, IsSoundAt, called_of, column, counts_of, is_given_up, known_at, losses_of, mark_in, none_live, are_copies, state_of, told_by, told_of}
+use Rattle.replica_store.specs.Parts.{FilesState, PartView, AreCopies, counts, one_if, part_of}
+use Rattle.replica_store.specs.Seats.{SeatView, KnownState, AllTakePart, IsSoundAt, called_of, column, counts_of, has_no_member, known_at, losses_of, mark_in, none_live, are_copies, state_of, told_by, told_of}
 use Rattle.replica_store.specs.Kept.{AllTouch, AllUnused, Deleted, NoneCalled, TakenOut, told_now}
-use Rattle.replica_store.specs.Objects.{AreSound, CreatesIn, DeletesIn, GivesIn, LeavesOthers, TakesIn, told_at}
+use Rattle.replica_store.specs.Objects.{AreSound, CreatesIn, DeletesIn, GivesIn, LeavesOtherObjects, TakesIn, told_at}
 use Rattle.replica_store.proofs.Marking.{marks_tell}
 use Rattle.replica_store.proofs.Told.{both, kept_told}
 use Rattle.replica_store.proofs.Changes.{fewer_called, leaves_others, none_are_called}
@@ -20,7 +20,7 @@ creates_itself Missing other = absurd (other refl)
 creates_itself (Kept bytes durable) other = refl
 creates_itself (Lent m) other = refl
 
-none_take_part : (ps : List PartState) → none_live ps ≡ true → sum_by (λ p. one_if p.live) ps ≡ 0
+none_take_part : (ps : List PartView) → none_live ps ≡ true → sum_by (λ p. one_if p.live) ps ≡ 0
 none_take_part [] off = refl
 none_take_part (p ∷ ps) off =
     let b = both (not p.live) (none_live ps) off in
@@ -32,7 +32,7 @@ none_take_part (p ∷ ps) off =
     is_off false e = refl
 
 module _ {X : Type 0} (v : X → SeatView) where
-  pub given_none : (xs : List X) (ps : List PartState) → is_given_up ps ≡ true → AllTakePart v xs ps → called_of v xs ≡ 0
+  pub given_none : (xs : List X) (ps : List PartView) → has_no_member ps ≡ true → AllTakePart v xs ps → called_of v xs ≡ 0
   given_none xs [] up part = absurd (cc)
   given_none xs (p ∷ ps) up part = let a = fewer_called v xs (p ∷ ps) part in let b = none_take_part (p ∷ ps) up in omega (arith, a, b)
 
@@ -40,7 +40,7 @@ module _ {X : Type 0} (v : X → SeatView) where
   pub not_missing : (xs : List X) (k : KnownState) (states : List ObjectState) → AllTakePart v xs k.parts → 0 < called_of v xs → told_of (Some k) states ≢ Missing
   not_missing xs k states part some = by (state_of states k.chief)
     where
-      up : (b : Bool) → is_given_up k.parts ≡ b → (if b then Missing else Lent []) ≢ Missing
+      up : (b : Bool) → has_no_member k.parts ≡ b → (if b then Missing else Lent []) ≢ Missing
       up true given same = let e = given_none xs k.parts given part in absurd (omega (arith, some, e))
       up false given same = cc
 
@@ -49,7 +49,7 @@ module _ {X : Type 0} (v : X → SeatView) where
       kept false bytes n same = cc
 
       by : (s : ObjectState) → told_by k states s ≢ Missing
-      by Missing = up (is_given_up k.parts) refl
+      by Missing = up (has_no_member k.parts) refl
       by (Kept bytes durable) = kept (are_copies bytes k.synced k.parts states) bytes (min k.synced (length bytes))
       by (Lent m) = λ same. cc
 
@@ -57,7 +57,7 @@ module _ {X : Type 0} (v : X → SeatView) where
 lent_marks : (ms ns : List ObjectId) → Lent ms ≡ Lent ns → ms ≡ ns
 lent_marks ms ns same = cc
 
-some_mark : (ps : List PartState) → 0 < length ps → [] ≡ joined (map (λ p. p.mark) ps) → ⊥
+some_mark : (ps : List PartView) → 0 < length ps → [] ≡ joined (map (λ p. p.mark) ps) → ⊥
 some_mark [] some same = absurd (omega (arith, some))
 some_mark (p ∷ ps) some same = by p.mark same
   where
@@ -65,7 +65,7 @@ some_mark (p ∷ ps) some same = by p.mark same
     by None same = cc
     by (Some m) same = cc
 
-pub own_marks : (o : Option KnownState) (states : List ObjectState) (ps : List PartState) → 0 < length ps → told_of o states ≡ Lent (joined (map (λ p. p.mark) ps)) → map mark_in states ≡ map (λ p. p.mark) ps
+pub own_marks : (o : Option KnownState) (states : List ObjectState) (ps : List PartView) → 0 < length ps → told_of o states ≡ Lent (joined (map (λ p. p.mark) ps)) → map mark_in states ≡ map (λ p. p.mark) ps
 own_marks None states ps some same = cc
 own_marks (Some k) states ps some same = by (state_of states k.chief) same
   where
@@ -78,7 +78,7 @@ own_marks (Some k) states ps some same = by (state_of states k.chief) same
     kept false bytes n same = some_mark ps some (lent_marks _ _ same)
 
     by : (s : ObjectState) → told_by k states s ≡ Lent (joined (map (λ p. p.mark) ps)) → map mark_in states ≡ map (λ p. p.mark) ps
-    by Missing same = absurd (up (is_given_up k.parts) same)
+    by Missing same = absurd (up (has_no_member k.parts) same)
     by (Kept bytes durable) same = absurd (kept (are_copies bytes k.synced k.parts states) bytes (min k.synced (length bytes)) same)
     by (Lent m) same = marks_tell _ _ (lent_marks _ _ same)
 
@@ -101,7 +101,7 @@ module _ {X : Type 0} (v : X → SeatView) (told : Type 0) (object : ObjectId) w
   there_known xs known o there is t = subst IsThere (at_known xs known o is) (there t)
 
   -- nothing is done
-  pub leaves_all : (xs : List X) (old new : List (ObjectId × KnownState)) → AreSound told v xs old → ((q : ObjectId) → q ≢ object → known_at new q ≡ known_at old q) → known_at new object ≡ known_at old object → LeavesOthers told v object xs xs old new
+  pub leaves_all : (xs : List X) (old new : List (ObjectId × KnownState)) → AreSound told v xs old → ((q : ObjectId) → q ≢ object → known_at new q ≡ known_at old q) → known_at new object ≡ known_at old object → LeavesOtherObjects told v object xs xs old new
   leaves_all xs old new sound others here = leaves_others v told object xs xs old new sound others (subst (IsSoundAt told v xs object) (sym here) (sound object)) (touch_self xs)
 
   was_missing : (xs : List X) (old : List (ObjectId × KnownState)) → known_at old object ≡ None → told_at v xs old object ≡ Missing

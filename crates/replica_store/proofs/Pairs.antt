@@ -3,7 +3,7 @@ use Rattle.std.proofs.Common.{◌≡◌, ◌≤◌, ℕ, zero, suc, ◌+◌, ◌
 use Rattle.std.proofs.lemmas.Grind.{common_steps}
 use Rattle.std.proofs.lemmas.List.Sums.{sum_by-cons}
 use Rattle.std.specs.List.{AllByRecursion, AllZip}
-use Rattle.replica_store.specs.Parts.{PartState, part_of, counts}
+use Rattle.replica_store.specs.Parts.{PartView, part_of, counts}
 
 module _ {X : Type 0} where
   abbrev pub UpTo : (X → X → Type 0) → ℕ → List X → List X → Type 0
@@ -112,16 +112,16 @@ module _ {X : Type 0} where
   compose R S T P step (x ∷ xs) (y ∷ ys) (z ∷ zs) r p s = (step x y z r.0 p.0 s.0, compose R S T P step xs ys zs r.1 p.1 s.1)
 
 -- what is true of all is true at each place, and the other way round
-pub at_part : (P : PartState → Type 0) (ps : List PartState) (k : ℕ) → AllByRecursion P ps → k < length ps → P (part_of ps k)
+pub at_part : (P : PartView → Type 0) (ps : List PartView) (k : ℕ) → AllByRecursion P ps → k < length ps → P (part_of ps k)
 at_part P [] k all lt = absurd (omega arith)
 at_part P (p ∷ ps) zero all lt = all.0
 at_part P (p ∷ ps) (suc k) all lt = at_part P ps k all.1 (omega arith)
 
-pub each_part : (P : PartState → Type 0) (ps : List PartState) → ((k : ℕ) → k < length ps → P (part_of ps k)) → AllByRecursion P ps
+pub each_part : (P : PartView → Type 0) (ps : List PartView) → ((k : ℕ) → k < length ps → P (part_of ps k)) → AllByRecursion P ps
 each_part P [] at = tt
 each_part P (p ∷ ps) at = (at 0 (omega arith), each_part P ps (λ k lt. at (suc k) (omega arith)))
 
-pub at_pair : (R : PartState → PartState → Type 0) (xs ys : List PartState) (k : ℕ) → AllZip R xs ys → k < length xs → R (part_of xs k) (part_of ys k)
+pub at_pair : (R : PartView → PartView → Type 0) (xs ys : List PartView) (k : ℕ) → AllZip R xs ys → k < length xs → R (part_of xs k) (part_of ys k)
 at_pair R [] [] k all lt = absurd (omega arith)
 at_pair R [] (y ∷ ys) k all lt = absurd all
 at_pair R (x ∷ xs) [] k all lt = absurd all
@@ -129,7 +129,7 @@ at_pair R (x ∷ xs) (y ∷ ys) zero all lt = all.0
 at_pair R (x ∷ xs) (y ∷ ys) (suc k) all lt = at_pair R xs ys k all.1 (omega arith)
 
 -- counts that don't fall don't fall together
-pub counts_grow : (R : PartState → PartState → Type 0) → ((x y : PartState) → R x y → x.count ≤ y.count) → (xs ys : List PartState) → AllZip R xs ys → counts xs ≤ counts ys
+pub counts_grow : (R : PartView → PartView → Type 0) → ((x y : PartView) → R x y → x.count ≤ y.count) → (xs ys : List PartView) → AllZip R xs ys → counts xs ≤ counts ys
 counts_grow R grows [] [] all = omega arith
 counts_grow R grows [] (y ∷ ys) all = absurd all
 counts_grow R grows (x ∷ xs) [] all = absurd all

@@ -6,11 +6,11 @@ use Rattle.gw_model.specs.declared.object.ObjectId.{ObjectId}
 use Rattle.append_store.specs.State.{ObjectState, Missing, Kept, Lent, IsAway, IsCrashImage}
 use Rattle.replica_store.specs.Kept.{AllTouch, NoneCalled, told_now}
 use Rattle.replica_store.specs.Levels.{AreFronts, AreLevel, IsFront, Serves, StayFronts}
-use Rattle.replica_store.specs.Parts.{PartState, part_of}
+use Rattle.replica_store.specs.Parts.{PartView, part_of}
 use Rattle.replica_store.specs.Reopening.{AwaitsLevel, HasFront, IsGivenUp, IsLed, IsLeft, IsOutOfNone}
-use Rattle.replica_store.specs.Seats.{SeatView, KnownState, AllTakePart, TakesPart, column, is_given_up, losses_of, mark_in, none_live, state_of, told_by}
+use Rattle.replica_store.specs.Seats.{SeatView, KnownState, AllTakePart, TakesPart, column, has_no_member, losses_of, mark_in, none_live, state_of, told_by}
 use Rattle.replica_store.specs.Starting.{AllLevelled, IsLevelled, Upholds}
-use Rattle.replica_store.specs.Steps.{GivenAs, Gives, TakenAs, Takes, Together, Touches}
+use Rattle.replica_store.specs.Steps.{GivenAs, GivesFile, TakenAs, TakesFile, Together, Touches}
 use Rattle.replica_store.proofs.Changes.{sum_same}
 use Rattle.replica_store.proofs.Enduring.{upholds_same}
 use Rattle.replica_store.proofs.Pairs.{at_pair, at_part, each_part, same_length}
@@ -18,25 +18,25 @@ use Rattle.replica_store.proofs.Told.{FitsIn, IsKept, told_kept}
 
 -- what one member had (x), has while its file is out (y), and has then (z), with its file as it was taken (p)
 -- and when it goes back (q), and its part then (r)
-record Chain (told : Type 0) (object : ObjectId) (x y z : SeatView) (p q r : PartState) : Type 0 where
-  part : PartState
-  takes : Takes told object x y part p
+record Chain (told : Type 0) (object : ObjectId) (x y z : SeatView) (p q r : PartView) : Type 0 where
+  part : PartView
+  takes : TakesFile told object x y part p
   serves : Serves told p q
-  gives : Gives told object y z q r
+  gives : GivesFile told object y z q r
 
 -- its file wasn't taken, and it has what it had; or it has what the file has
-record Took (told : Type 0) (object : ObjectId) (x z : SeatView) (p q : PartState) : Type 0 where
+record Took (told : Type 0) (object : ObjectId) (x z : SeatView) (p q : PartView) : Type 0 where
   live : p.live ≡ true
   before : told → x.at object ≡ Kept p.content p.durable
   after : told → z.at object ≡ Kept q.content q.durable
   losses : told → z.losses object ≡ x.losses object
 
-record Left (told : Type 0) (object : ObjectId) (x z : SeatView) (p : PartState) : Type 0 where
+record Left (told : Type 0) (object : ObjectId) (x z : SeatView) (p : PartView) : Type 0 where
   idle : p.live ≡ false
   same : told → z.at object ≡ x.at object
   losses : told → z.losses object ≡ x.losses object
 
-settle : (told : Type 0) (object : ObjectId) (x y z : SeatView) (p q r : PartState) (m : Option (List ObjectId)) → p.mark ≡ m → Chain told object x y z p q r → Took told object x z p q ⊎ Left told object x z p
+settle : (told : Type 0) (object : ObjectId) (x y z : SeatView) (p q r : PartView) (m : Option (List ObjectId)) → p.mark ≡ m → Chain told object x y z p q r → Took told object x z p q ⊎ Left told object x z p
 settle told object x y z p q r None is c = inr (record {
   idle = c.takes.there ∙ ap (λ n. is_some n) is;
   same = λ t. (c.gives.nothing (c.serves.mark ∙ is)).0 ∙ subst (λ n. TakenAs p n (x.at object) (y.at object)) is (c.takes.taken t);
@@ -51,14 +51,14 @@ settle told object x y z p q r (Some m) is c =
       losses = λ t. c.gives.own_losses t (out t) ∙ c.takes.losses t;
     })
 
-settled : (told : Type 0) (object : ObjectId) (x y z : SeatView) (p q r : PartState) → Chain told object x y z p q r → Took told object x z p q ⊎ Left told object x z p
+settled : (told : Type 0) (object : ObjectId) (x y z : SeatView) (p q r : PartView) → Chain told object x y z p q r → Took told object x z p q ⊎ Left told object x z p
 settled told object x y z p q r c = settle told object x y z p q r p.mark refl c
 
 kept_content : (a b : List ℕ) (d e : ℕ) → Kept a d ≡ Kept b e → a ≡ b
 kept_content a b d e same = cc
 
 -- the file that was taken has a front, if the member had one
-front_taken : (told : Type 0) (object : ObjectId) (x y z : SeatView) (p q r : PartState) (bytes : List ℕ) (least : ℕ) → Chain told object x y z p q r → told → HasFront bytes least (x.at object) → p.live ≡ true → IsFront bytes least p.content
+front_taken : (told : Type 0) (object : ObjectId) (x y z : SeatView) (p q r : PartView) (bytes : List ℕ) (least : ℕ) → Chain told object x y z p q r → told → HasFront bytes least (x.at object) → p.live ≡ true → IsFront bytes least p.content
 front_taken told object x y z p q r bytes least c t has live = by (settled told object x y z p q r c)
   where
     by : Took told object x z p q ⊎ Left told object x z p → IsFront bytes least p.content
@@ -66,7 +66,7 @@ front_taken told object x y z p q r bytes least c t has live = by (settled told 
     by (inr left) = absurd (let off = left.idle in cc)
 
 -- the member has a front then, if it had one
-front_left : (told : Type 0) (object : ObjectId) (x y z : SeatView) (p q r : PartState) (bytes : List ℕ) (least : ℕ) → Chain told object x y z p q r → told → HasFront bytes least (x.at object) → (p.live ≡ true → told → IsFront bytes least q.content) → HasFront bytes least (z.at object)
+front_left : (told : Type 0) (object : ObjectId) (x y z : SeatView) (p q r : PartView) (bytes : List ℕ) (least : ℕ) → Chain told object x y z p q r → told → HasFront bytes least (x.at object) → (p.live ≡ true → told → IsFront bytes least q.content) → HasFront bytes least (z.at object)
 front_left told object x y z p q r bytes least c t has stay = by (settled told object x y z p q r c)
   where
     by : Took told object x z p q ⊎ Left told object x z p → HasFront bytes least (z.at object)
@@ -74,7 +74,7 @@ front_left told object x y z p q r bytes least c t has stay = by (settled told o
     by (inr left) = record { content = has.content; durable = has.durable; kept = left.same t ∙ has.kept; front = has.front }
 
 -- what a member has whose file was written to the end
-has_file : (told : Type 0) (object : ObjectId) (x y z : SeatView) (p q r : PartState) → Chain told object x y z p q r → told → q.live ≡ true → z.at object ≡ Kept q.content q.durable
+has_file : (told : Type 0) (object : ObjectId) (x y z : SeatView) (p q r : PartView) → Chain told object x y z p q r → told → q.live ≡ true → z.at object ≡ Kept q.content q.durable
 has_file told object x y z p q r c t live = by (settled told object x y z p q r c)
   where
     by : Took told object x z p q ⊎ Left told object x z p → z.at object ≡ Kept q.content q.durable
@@ -87,14 +87,14 @@ not_away s t same inside away = inside (subst IsAway same away)
 kept_inside : (s : ObjectState) (b : List ℕ) (d : ℕ) → s ≡ Kept b d → IsAway s → ⊥
 kept_inside s b d same away = subst IsAway same away
 
-stays_inside : (told : Type 0) (object : ObjectId) (x y z : SeatView) (p q r : PartState) → Chain told object x y z p q r → told → (IsAway (x.at object) → ⊥) → IsAway (z.at object) → ⊥
+stays_inside : (told : Type 0) (object : ObjectId) (x y z : SeatView) (p q r : PartView) → Chain told object x y z p q r → told → (IsAway (x.at object) → ⊥) → IsAway (z.at object) → ⊥
 stays_inside told object x y z p q r c t inside = by (settled told object x y z p q r c)
   where
     by : Took told object x z p q ⊎ Left told object x z p → IsAway (z.at object) → ⊥
     by (inl took) = kept_inside _ _ _ (took.after t)
     by (inr left) = not_away _ _ (left.same t) inside
 
-keeps_losses : (told : Type 0) (object : ObjectId) (x y z : SeatView) (p q r : PartState) → Chain told object x y z p q r → told → z.losses object ≡ x.losses object
+keeps_losses : (told : Type 0) (object : ObjectId) (x y z : SeatView) (p q r : PartView) → Chain told object x y z p q r → told → z.losses object ≡ x.losses object
 keeps_losses told object x y z p q r c t = by (settled told object x y z p q r c)
   where
     by : Took told object x z p q ⊎ Left told object x z p → z.losses object ≡ x.losses object
@@ -102,7 +102,7 @@ keeps_losses told object x y z p q r c t = by (settled told object x y z p q r c
     by (inr left) = left.losses t
 
 -- the member has what it had
-levelled : (told : Type 0) (object : ObjectId) (x y z : SeatView) (p q r : PartState) → Chain told object x y z p q r → IsLevelled told object x z
+levelled : (told : Type 0) (object : ObjectId) (x y z : SeatView) (p q r : PartView) → Chain told object x y z p q r → IsLevelled told object x z
 levelled told object x y z p q r c = by (settled told object x y z p q r c)
   where
     by : Took told object x z p q ⊎ Left told object x z p → IsLevelled told object x z
@@ -113,7 +113,7 @@ levelled told object x y z p q r c = by (settled told object x y z p q r c)
     }
     by (inr left) = record { held = λ t. upholds_same _ _ (left.same t); losses = left.losses }
 
-stays_left : (told : Type 0) (object : ObjectId) (x y z : SeatView) (p q r : PartState) → Chain told object x y z p q r → told → p.live ≡ false → z.at object ≡ x.at object
+stays_left : (told : Type 0) (object : ObjectId) (x y z : SeatView) (p q r : PartView) → Chain told object x y z p q r → told → p.live ≡ false → z.at object ≡ x.at object
 stays_left told object x y z p q r c t off = by (settled told object x y z p q r c)
   where
     by : Took told object x z p q ⊎ Left told object x z p → z.at object ≡ x.at object
@@ -124,11 +124,11 @@ not_called : (a b : Bool) → (a ≡ true → b ≡ true) → b ≡ false → a 
 not_called true b more off = absurd (let e = more refl in cc)
 not_called false b more off = refl
 
-none_live_of : (ps : List PartState) → AllByRecursion (λ p. p.live ≡ false) ps → none_live ps ≡ true
+none_live_of : (ps : List PartView) → AllByRecursion (λ p. p.live ≡ false) ps → none_live ps ≡ true
 none_live_of [] all = refl
 none_live_of (p ∷ ps) all = rw (all.0, none_live_of ps all.1) refl
 
-given_up : (ps : List PartState) → 0 < length ps → AllByRecursion (λ p. p.live ≡ false) ps → is_given_up ps ≡ true
+given_up : (ps : List PartView) → 0 < length ps → AllByRecursion (λ p. p.live ≡ false) ps → has_no_member ps ≡ true
 given_up [] some all = absurd (omega (arith, some))
 given_up (p ∷ ps) some all = none_live_of (p ∷ ps) all
 
@@ -147,7 +147,7 @@ module _ {X : Type 0} (v : X → SeatView) where
   column_at q (s ∷ ss) zero = refl
   column_at q (s ∷ ss) (suc k) = column_at q ss k
 
-  pub at_member : (R : SeatView → SeatView → PartState → PartState → Type 0) (xs ys : List X) (ps qs : List PartState) (k : ℕ) → Together (λ s t p q. R (v s) (v t) p q) xs ys ps qs → k < length xs → R (view_of xs k) (view_of ys k) (part_of ps k) (part_of qs k)
+  pub at_member : (R : SeatView → SeatView → PartView → PartView → Type 0) (xs ys : List X) (ps qs : List PartView) (k : ℕ) → Together (λ s t p q. R (v s) (v t) p q) xs ys ps qs → k < length xs → R (view_of xs k) (view_of ys k) (part_of ps k) (part_of qs k)
   at_member R [] ys ps qs k is lt = absurd (omega (arith, lt))
   at_member R (x ∷ xs) [] ps qs k is lt = absurd is
   at_member R (x ∷ xs) (y ∷ ys) [] qs k is lt = absurd is
@@ -160,7 +160,7 @@ module _ {X : Type 0} (v : X → SeatView) where
   at_view P (s ∷ ss) zero all lt = all.0
   at_view P (s ∷ ss) (suc k) all lt = at_view P ss k all.1 (omega (arith, lt))
 
-  pub each_zip : (S : SeatView → PartState → Type 0) (ss : List X) (ps : List PartState) → length ps ≡ length ss → ((k : ℕ) → k < length ss → S (view_of ss k) (part_of ps k)) → AllZip (λ s p. S (v s) p) ss ps
+  pub each_zip : (S : SeatView → PartView → Type 0) (ss : List X) (ps : List PartView) → length ps ≡ length ss → ((k : ℕ) → k < length ss → S (view_of ss k) (part_of ps k)) → AllZip (λ s p. S (v s) p) ss ps
   each_zip S [] [] same at = tt
   each_zip S [] (p ∷ ps) same at = absurd (omega (arith, same))
   each_zip S (s ∷ ss) [] same at = absurd (omega (arith, same))
@@ -172,7 +172,7 @@ module _ {X : Type 0} (v : X → SeatView) where
   each_two S (x ∷ xs) [] same at = absurd (omega (arith, same))
   each_two S (x ∷ xs) (y ∷ ys) same at = (at 0 (omega arith), each_two S xs ys (omega (arith, same)) (λ k lt. at (suc k) (omega (arith, lt))))
 
-  counted : (R : SeatView → SeatView → PartState → PartState → Type 0) (xs ys : List X) (ps qs : List PartState) → Together (λ s t p q. R (v s) (v t) p q) xs ys ps qs → (length ys ≡ length xs) × (length qs ≡ length ps) × (length ps ≡ length xs)
+  counted : (R : SeatView → SeatView → PartView → PartView → Type 0) (xs ys : List X) (ps qs : List PartView) → Together (λ s t p q. R (v s) (v t) p q) xs ys ps qs → (length ys ≡ length xs) × (length qs ≡ length ps) × (length ps ≡ length xs)
   counted R [] [] [] [] is = (refl, refl, refl)
   counted R [] [] [] (q ∷ qs) is = absurd is
   counted R [] [] (p ∷ ps) qs is = absurd is
@@ -197,26 +197,26 @@ module _ {X : Type 0} (v : X → SeatView) where
   inside_range q (s ∷ ss) zero b d is = omega arith
   inside_range q (s ∷ ss) (suc k) b d is = let a = inside_range q ss k b d is in omega (arith, a)
 
-  module _ (told : Type 0) (object : ObjectId) (xs ys zs : List X) (os ps qs rs : List PartState) (takes : Together (λ s t p q. Takes told object (v s) (v t) p q) xs ys os ps) (serves : AllZip (Serves told) ps qs) (gives : Together (λ s t p q. Gives told object (v s) (v t) p q) ys zs qs rs) where
+  module _ (told : Type 0) (object : ObjectId) (xs ys zs : List X) (os ps qs rs : List PartView) (takes : Together (λ s t p q. TakesFile told object (v s) (v t) p q) xs ys os ps) (serves : AllZip (Serves told) ps qs) (gives : Together (λ s t p q. GivesFile told object (v s) (v t) p q) ys zs qs rs) where
     chain : (k : ℕ) → k < length xs → Chain told object (view_of xs k) (view_of ys k) (view_of zs k) (part_of ps k) (part_of qs k) (part_of rs k)
     chain k lt =
-        let n = counted (Takes told object) xs ys os ps takes in
+        let n = counted (TakesFile told object) xs ys os ps takes in
         let long = n.0 in let many = n.1 in let few = n.2 in
         record {
           part = part_of os k;
-          takes = at_member (Takes told object) xs ys os ps k takes lt;
+          takes = at_member (TakesFile told object) xs ys os ps k takes lt;
           serves = at_pair _ ps qs k serves (omega (arith, lt, many, few));
-          gives = at_member (Gives told object) ys zs qs rs k gives (omega (arith, lt, long));
+          gives = at_member (GivesFile told object) ys zs qs rs k gives (omega (arith, lt, long));
         }
 
     many_members : length zs ≡ length xs
-    many_members = let a = (counted (Takes told object) xs ys os ps takes).0 in let b = (counted (Gives told object) ys zs qs rs gives).0 in omega (arith, a, b)
+    many_members = let a = (counted (TakesFile told object) xs ys os ps takes).0 in let b = (counted (GivesFile told object) ys zs qs rs gives).0 in omega (arith, a, b)
 
     pub many_files : length qs ≡ length xs
-    many_files = let a = (counted (Takes told object) xs ys os ps takes).0 in let b = (counted (Gives told object) ys zs qs rs gives).2 in omega (arith, a, b)
+    many_files = let a = (counted (TakesFile told object) xs ys os ps takes).0 in let b = (counted (GivesFile told object) ys zs qs rs gives).2 in omega (arith, a, b)
 
     pub many_parts : length rs ≡ length zs
-    many_parts = let c = counted (Gives told object) ys zs qs rs gives in let a = c.0 in let b = c.1 in let d = c.2 in omega (arith, a, b, d)
+    many_parts = let c = counted (GivesFile told object) ys zs qs rs gives in let a = c.0 in let b = c.1 in let d = c.2 in omega (arith, a, b, d)
 
     pub all_touch : AllTouch told v object xs zs
     all_touch = each_two (Touches told object) xs zs many_members (λ k lt.
@@ -236,7 +236,7 @@ module _ {X : Type 0} (v : X → SeatView) where
     pub all_part : AllTakePart v zs rs
     all_part = by rs part_each
       where
-        by : (us : List PartState) → AllZip (λ s p. TakesPart (v s) p) zs us → AllTakePart v zs us
+        by : (us : List PartView) → AllZip (λ s p. TakesPart (v s) p) zs us → AllTakePart v zs us
         by [] is = tt
         by (u ∷ us) is = is
 
@@ -250,7 +250,7 @@ module _ {X : Type 0} (v : X → SeatView) where
     -- the files that were taken have fronts
     pub taken_fronts : (bytes : List ℕ) (least : ℕ) → AllByRecursion (λ s. (v s).live ≡ true → told → HasFront bytes least ((v s).at object)) xs → AreFronts told bytes least ps
     taken_fronts bytes least fronts = each_part _ ps (λ k lt live t.
-        let n = counted (Takes told object) xs ys os ps takes in
+        let n = counted (TakesFile told object) xs ys os ps takes in
         let many = n.1 in let few = n.2 in
         let there : k < length xs = omega (arith, lt, many, few) in
         let c = chain k there in
@@ -302,7 +302,7 @@ module _ {X : Type 0} (v : X → SeatView) where
     none_now bytes least chief inside t low has stay none =
         let start : HasFront bytes least ((view_of xs chief).at object) = subst (HasFront bytes least) (column_at object xs chief) has in
         let lt = inside_range object xs chief _ _ start.kept in
-        let n = counted (Takes told object) xs ys os ps takes in
+        let n = counted (TakesFile told object) xs ys os ps takes in
         let many = n.1 in let few = n.2 in
         let more = many_members in
         let files = many_files in
@@ -339,7 +339,7 @@ module _ {X : Type 0} (v : X → SeatView) where
         let here : state_of (column v zs object) chief ≡ Missing =
         column_at object zs chief ∙ view_same object xs zs chief (same_two is.none t) ∙ sym (column_at object xs chief)
         ∙ ap (state_of (column v xs object)) same ∙ is.chief t in
-        let up : is_given_up rs ≡ true = given_up rs (omega (arith, some, more, parts)) (each_part _ rs (λ i lt.
+        let up : has_no_member rs ≡ true = given_up rs (omega (arith, some, more, parts)) (each_part _ rs (λ i lt.
         let there : i < length xs = omega (arith, lt, parts, more) in
         let c = chain i there in
         let off = at_view (λ s. s.live ≡ false) xs i is.none there in
@@ -358,7 +358,7 @@ module _ {X : Type 0} (v : X → SeatView) where
         absurd (cc)
 
   -- what the store tells when the files are back
-  module _ (told : Type 0) (object : ObjectId) (xs ys zs : List X) (os ps qs rs : List PartState) (takes : Together (λ s t p q. Takes told object (v s) (v t) p q) xs ys os ps) (serves : AllZip (Serves told) ps qs) (gives : Together (λ s t p q. Gives told object (v s) (v t) p q) ys zs qs rs) (k : KnownState) (chief lead kept : ℕ) (same : chief ≡ k.chief) where
+  module _ (told : Type 0) (object : ObjectId) (xs ys zs : List X) (os ps qs rs : List PartView) (takes : Together (λ s t p q. TakesFile told object (v s) (v t) p q) xs ys os ps) (serves : AllZip (Serves told) ps qs) (gives : Together (λ s t p q. GivesFile told object (v s) (v t) p q) ys zs qs rs) (k : KnownState) (chief lead kept : ℕ) (same : chief ≡ k.chief) where
     pub level_end : ((bytes : List ℕ) (least : ℕ) → AreFronts told bytes least ps → StayFronts told bytes least ps qs) → IsLed told ps qs lead kept ⊎ IsLeft chief qs lead kept → (bytes : List ℕ) (least : ℕ) → AwaitsLevel told v object bytes least xs k → told → IsCrashImage (Kept bytes least) (told_now v object zs (record { chief = lead; synced = kept; parts = rs }))
     level_end stays (inl led) bytes least awaits t =
         let fronts = taken_fronts told object xs ys zs os ps qs rs takes serves gives bytes least awaits.fronts in

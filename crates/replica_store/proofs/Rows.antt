@@ -3,10 +3,10 @@ use Rattle.std.proofs.Common.{◌≡◌, ℕ, Bool, true, false, List, [], ◌�
 use Rattle.gw_model.specs.declared.object.ObjectId.TheVariants.{Log, Body}
 use Rattle.gw_outside.specs.Tally.{no_calls}
 use Rattle.replica_store.specs.Marks.{joined}
-use Rattle.replica_store.specs.Parts.{PartState, FilesState, bytes_in, count_in, durable_in, live_of}
+use Rattle.replica_store.specs.Parts.{PartView, FilesState, bytes_in, count_in, durable_in, live_of}
 
 -- three members' files of one object, after an append of five bytes of which the second kept two
-abbrev part : List ℕ → ℕ → ℕ → Bool → PartState
+abbrev part : List ℕ → ℕ → ℕ → Bool → PartView
 part content durable count live = record { mark = Some (Body 4 1 ∷ []); content = content; durable = durable; count = count; tally = no_calls; live = live; kept = 0 }
 
 abbrev file : ℕ → ℕ → FilesState

@@ -8,7 +8,7 @@ use Rattle.append_store.specs.State.{ObjectState, Missing, Kept, Lent, IsAway, I
 use Rattle.append_store.specs.Calls.{Has, HasLength, Lists, MayCreate}
 use Rattle.replica_store.specs.Kept.{AllUnused}
 use Rattle.replica_store.specs.Objects.{AreSound, told_at}
-use Rattle.replica_store.specs.Parts.{PartState}
+use Rattle.replica_store.specs.Parts.{PartView}
 use Rattle.replica_store.specs.Reopening.{AllUntouched, Awaits, AwaitsLevel, CanLevel, HasFront, IsOutOfNone}
 use Rattle.replica_store.specs.Seats.{KnownState, SeatView, AllTakePart, IsCalledAt, IsSoundAt, TakesPart, column, known_at, state_of}
 use Rattle.replica_store.specs.Starting.{AllEndure, AllMayAdd, AreCutOf, AreSupplied, Endures, Introduces, IsListedAt, IsStarted, IsSupplied, IsSuppliedAt, MayAdd, MayHave, StartsAs, Upholds}
@@ -250,13 +250,13 @@ module _ {X : Type 0} (told : Type 0) (v : X → SeatView) where
     unused_all q ys (λ k lt. listed (suc k) (omega (arith, lt))) inside.1,
   )
 
-  zip_parts : (ys : List X) (ps : List PartState) → length ps ≡ length ys → AllByRecursion (λ p. p.live ≡ true) ps → AllZip (λ s p. TakesPart (v s) p) ys ps
+  zip_parts : (ys : List X) (ps : List PartView) → length ps ≡ length ys → AllByRecursion (λ p. p.live ≡ true) ps → AllZip (λ s p. TakesPart (v s) p) ys ps
   zip_parts [] [] same live = tt
   zip_parts [] (p ∷ ps) same live = absurd (omega (arith, same))
   zip_parts (y ∷ ys) [] same live = absurd (omega (arith, same))
   zip_parts (y ∷ ys) (p ∷ ps) same live = (λ on. live.0, zip_parts ys ps (omega (arith, same)) live.1)
 
-  take_part : (ys : List X) (ps : List PartState) → length ps ≡ length ys → AllByRecursion (λ p. p.live ≡ true) ps → AllTakePart v ys ps
+  take_part : (ys : List X) (ps : List PartView) → length ps ≡ length ys → AllByRecursion (λ p. p.live ≡ true) ps → AllTakePart v ys ps
   take_part ys [] same live = tt
   take_part ys (p ∷ ps) same live = zip_parts ys (p ∷ ps) same live
 

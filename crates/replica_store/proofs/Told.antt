@@ -3,8 +3,8 @@ use Rattle.std.proofs.Common.{◌≡◌, ◌≤◌, ℕ, ◌-◌, ◌^◌, ◌<�
 use Rattle.std.specs.List.{AllZip}
 use Rattle.gw_model.specs.declared.object.ObjectId.{ObjectId}
 use Rattle.append_store.specs.State.{ObjectState, Missing, Kept, Lent, IsAway, IsThere, bytes_of}
-use Rattle.replica_store.specs.Parts.{PartState}
-use Rattle.replica_store.specs.Seats.{SeatView, KnownState, column, state_of, same_bytes, is_copy, is_low, is_in, fits, are_copies, is_given_up, told_by, told_of}
+use Rattle.replica_store.specs.Parts.{PartView}
+use Rattle.replica_store.specs.Seats.{SeatView, KnownState, column, state_of, is_same_content, is_copy, is_low, is_at_home, is_in_place, are_copies, has_no_member, told_by, told_of}
 
 pub both : (a b : Bool) → (a && b) ≡ true → (a ≡ true) × (b ≡ true)
 both true true is = (refl, refl)
@@ -14,20 +14,20 @@ both false b is = absurd (cc)
 and : (a b : Bool) → a ≡ true → b ≡ true → (a && b) ≡ true
 and a b one two = rw (one, two) refl
 
-pub same_are : (xs ys : List ℕ) → same_bytes xs ys ≡ true → xs ≡ ys
+pub same_are : (xs ys : List ℕ) → is_same_content xs ys ≡ true → xs ≡ ys
 same_are [] [] is = refl
 same_are [] (y ∷ ys) is = absurd (cc)
 same_are (x ∷ xs) [] is = absurd (cc)
 same_are (x ∷ xs) (y ∷ ys) is =
-    let b = both (eqb x y) (same_bytes xs ys) is in
+    let b = both (eqb x y) (is_same_content xs ys) is in
     ap (λ z. z ∷ xs) (eqb-true x y b.0) ∙ ap (λ zs. y ∷ zs) (same_are xs ys b.1)
 
 eqb_self : (x : ℕ) → eqb x x ≡ true
 eqb_self x = grind arith
 
-pub are_same : (xs : List ℕ) → same_bytes xs xs ≡ true
+pub are_same : (xs : List ℕ) → is_same_content xs xs ≡ true
 are_same [] = refl
-are_same (x ∷ xs) = and (eqb x x) (same_bytes xs xs) (eqb_self x) (are_same xs)
+are_same (x ∷ xs) = and (eqb x x) (is_same_content xs xs) (eqb_self x) (are_same xs)
 
 -- a copy of these bytes, with so many durable at least
 pub record IsCopyOf (bytes : List ℕ) (synced : ℕ) (s : ObjectState) : Type 0 where
@@ -38,12 +38,12 @@ pub record IsCopyOf (bytes : List ℕ) (synced : ℕ) (s : ObjectState) : Type 0
 pub copy_of : (bytes : List ℕ) (synced : ℕ) (s : ObjectState) → is_copy bytes synced s ≡ true → IsCopyOf bytes synced s
 copy_of bytes synced Missing is = absurd (cc)
 copy_of bytes synced (Kept content durable) is =
-    let b = both (same_bytes bytes content) (leb synced durable) is in
+    let b = both (is_same_content bytes content) (leb synced durable) is in
     record { durable = durable; kept = ap (λ c. Kept c durable) (sym (same_are bytes content b.0)); more = leb-true synced durable b.1 }
 copy_of bytes synced (Lent m) is = absurd (cc)
 
 copy_is : (bytes : List ℕ) (synced durable : ℕ) → synced ≤ durable → is_copy bytes synced (Kept bytes durable) ≡ true
-copy_is bytes synced durable more = and (same_bytes bytes bytes) (leb synced durable) (are_same bytes) (le-leb synced durable more)
+copy_is bytes synced durable more = and (is_same_content bytes bytes) (leb synced durable) (are_same bytes) (le-leb synced durable more)
 
 pub is_copy_of : (bytes : List ℕ) (synced : ℕ) (s : ObjectState) → IsCopyOf bytes synced s → is_copy bytes synced s ≡ true
 is_copy_of bytes synced s is = ap (is_copy bytes synced) is.kept ∙ copy_is bytes synced is.durable is.more
@@ -53,12 +53,12 @@ pub record FitsIn (bytes : List ℕ) (synced : ℕ) (live : Bool) (s : ObjectSta
   pub copy : live ≡ true → IsCopyOf bytes synced s
   pub inside : IsAway s → ⊥
 
-in_is : (s : ObjectState) → is_in s ≡ true → IsAway s → ⊥
+in_is : (s : ObjectState) → is_at_home s ≡ true → IsAway s → ⊥
 in_is Missing is away = away
 in_is (Kept bytes durable) is away = away
 in_is (Lent m) is away = absurd (cc)
 
-is_in_of : (s : ObjectState) → (IsAway s → ⊥) → is_in s ≡ true
+is_in_of : (s : ObjectState) → (IsAway s → ⊥) → is_at_home s ≡ true
 is_in_of Missing none = refl
 is_in_of (Kept bytes durable) none = refl
 is_in_of (Lent m) none = absurd (none tt)
@@ -66,41 +66,41 @@ is_in_of (Lent m) none = absurd (none tt)
 pub kept_in : (bytes : List ℕ) (synced : ℕ) (s : ObjectState) → IsCopyOf bytes synced s → IsAway s → ⊥
 kept_in bytes synced s is away = subst IsAway is.kept away
 
-fit_of : (bytes : List ℕ) (synced : ℕ) (live : Bool) (s : ObjectState) → fits bytes synced live s ≡ true → FitsIn bytes synced live s
+fit_of : (bytes : List ℕ) (synced : ℕ) (live : Bool) (s : ObjectState) → is_in_place bytes synced live s ≡ true → FitsIn bytes synced live s
 fit_of bytes synced true s is = let c = copy_of bytes synced s is in record { copy = λ l. c; inside = kept_in bytes synced s c }
 fit_of bytes synced false s is = record { copy = λ l. absurd (cc); inside = in_is s is }
 
-of_fit : (bytes : List ℕ) (synced : ℕ) (live : Bool) (s : ObjectState) → FitsIn bytes synced live s → fits bytes synced live s ≡ true
+of_fit : (bytes : List ℕ) (synced : ℕ) (live : Bool) (s : ObjectState) → FitsIn bytes synced live s → is_in_place bytes synced live s ≡ true
 of_fit bytes synced true s is = is_copy_of bytes synced s (is.copy refl)
 of_fit bytes synced false s is = is_in_of s is.inside
 
 module _ {X : Type 0} (v : X → SeatView) (q : ObjectId) where
-  abbrev pub AllFit : List ℕ → ℕ → List X → List PartState → Type 0
+  abbrev pub AllFit : List ℕ → ℕ → List X → List PartView → Type 0
   AllFit bytes synced ss ps = AllZip (λ s p. FitsIn bytes synced p.live ((v s).at q)) ss ps
 
-  pub copies_fit : (bytes : List ℕ) (synced : ℕ) (ss : List X) (ps : List PartState) → are_copies bytes synced ps (column v ss q) ≡ true → AllFit bytes synced ss ps
+  pub copies_fit : (bytes : List ℕ) (synced : ℕ) (ss : List X) (ps : List PartView) → are_copies bytes synced ps (column v ss q) ≡ true → AllFit bytes synced ss ps
   copies_fit bytes synced [] [] is = tt
   copies_fit bytes synced [] (p ∷ ps) is = absurd (cc)
   copies_fit bytes synced (s ∷ ss) [] is = absurd (cc)
   copies_fit bytes synced (s ∷ ss) (p ∷ ps) is =
-      let b = both (fits bytes synced p.live ((v s).at q)) (are_copies bytes synced ps (column v ss q)) is in
+      let b = both (is_in_place bytes synced p.live ((v s).at q)) (are_copies bytes synced ps (column v ss q)) is in
       (fit_of bytes synced p.live ((v s).at q) b.0, copies_fit bytes synced ss ps b.1)
 
   low_is : (bytes : List ℕ) → length bytes < 2 ^ 63 → is_low bytes ≡ true
   low_is bytes low = le-leb (length bytes) (2 ^ 63 - 1) (omega (arith, low))
 
   -- the bytes of copies are those of a file
-  pub copies_low : (bytes : List ℕ) (synced : ℕ) (ss : List X) (ps : List PartState) → are_copies bytes synced ps (column v ss q) ≡ true → length bytes < 2 ^ 63
+  pub copies_low : (bytes : List ℕ) (synced : ℕ) (ss : List X) (ps : List PartView) → are_copies bytes synced ps (column v ss q) ≡ true → length bytes < 2 ^ 63
   copies_low bytes synced [] [] is = let a = leb-true (length bytes) (2 ^ 63 - 1) is in omega (arith, a)
   copies_low bytes synced [] (p ∷ ps) is = absurd (cc)
   copies_low bytes synced (s ∷ ss) [] is = absurd (cc)
-  copies_low bytes synced (s ∷ ss) (p ∷ ps) is = copies_low bytes synced ss ps (both (fits bytes synced p.live ((v s).at q)) (are_copies bytes synced ps (column v ss q)) is).1
+  copies_low bytes synced (s ∷ ss) (p ∷ ps) is = copies_low bytes synced ss ps (both (is_in_place bytes synced p.live ((v s).at q)) (are_copies bytes synced ps (column v ss q)) is).1
 
-  pub fit_copies : (bytes : List ℕ) (synced : ℕ) (ss : List X) (ps : List PartState) → length bytes < 2 ^ 63 → AllFit bytes synced ss ps → are_copies bytes synced ps (column v ss q) ≡ true
+  pub fit_copies : (bytes : List ℕ) (synced : ℕ) (ss : List X) (ps : List PartView) → length bytes < 2 ^ 63 → AllFit bytes synced ss ps → are_copies bytes synced ps (column v ss q) ≡ true
   fit_copies bytes synced [] [] low is = low_is bytes low
   fit_copies bytes synced [] (p ∷ ps) low is = absurd is
   fit_copies bytes synced (s ∷ ss) [] low is = absurd is
-  fit_copies bytes synced (s ∷ ss) (p ∷ ps) low is = and (fits bytes synced p.live ((v s).at q)) (are_copies bytes synced ps (column v ss q)) (of_fit bytes synced p.live ((v s).at q) is.0) (fit_copies bytes synced ss ps low is.1)
+  fit_copies bytes synced (s ∷ ss) (p ∷ ps) low is = and (is_in_place bytes synced p.live ((v s).at q)) (are_copies bytes synced ps (column v ss q)) (of_fit bytes synced p.live ((v s).at q) is.0) (fit_copies bytes synced ss ps low is.1)
 
   -- the store tells these bytes
   pub record IsKept (k : KnownState) (ss : List X) (bytes : List ℕ) : Type 0 where
@@ -125,7 +125,7 @@ module _ {X : Type 0} (v : X → SeatView) (q : ObjectId) where
   kept_told k ss is = by (state_of (column v ss q) k.chief) refl is
     where
       by : (s : ObjectState) → state_of (column v ss q) k.chief ≡ s → IsThere (told_by k (column v ss q) s) → IsKept k ss (bytes_of (state_of (column v ss q) k.chief))
-      by Missing same there = absurd (if_missing (is_given_up k.parts) there)
+      by Missing same there = absurd (if_missing (has_no_member k.parts) there)
       by (Kept bytes durable) same there =
           let one = ap bytes_of same in
           record {

@@ -9,7 +9,7 @@ use Rattle.append_store.specs.Calls.{object_cmp}
 use Rattle.append_store.specs.State.{ObjectState, Missing, Kept, Lent, IsAway, IsThere, IsCrashImage}
 use Rattle.replica_store.specs.Kept.{AllTouch, NoneCalled}
 use Rattle.replica_store.specs.Objects.{AreSound, told_at}
-use Rattle.replica_store.specs.Reopening.{AllUntouched, Awaits, CanLevel, HasFront, IsAfter, IsOutOfNone}
+use Rattle.replica_store.specs.Reopening.{AllUntouched, Awaits, CanLevel, HasFront, IsBehind, IsOutOfNone}
 use Rattle.replica_store.specs.Seats.{SeatView, KnownState, IsSoundAt, column, counts_of, known_at, losses_of, state_of, told_of}
 use Rattle.replica_store.specs.Starting.{AllEndure, AllLevelled}
 use Rattle.replica_store.proofs.Changes.{leaves_others, same_name}
@@ -21,7 +21,7 @@ use Rattle.replica_store.proofs.Told.{column_same}
 pub not_self : (o : ObjectId) → object_cmp o o ≡ Less → ⊥
 not_self o h = let turned : Less ≡ Greater = sym h ∙ (total-law.antisymm o o ∙ ap ordering_reverse h) in cc
 
-pub after_or : (last : Option ObjectId) (q : ObjectId) → IsAfter last q ⊎ (IsAfter last q → ⊥)
+pub after_or : (last : Option ObjectId) (q : ObjectId) → IsBehind last q ⊎ (IsBehind last q → ⊥)
 after_or None q = inl tt
 after_or (Some o) q = by (object_cmp o q) refl
   where
@@ -30,7 +30,7 @@ after_or (Some o) q = by (object_cmp o q) refl
     by Equal same = inr (λ l. let e : Less ≡ Equal = sym l ∙ same in cc)
     by Greater same = inr (λ l. let e : Less ≡ Greater = sym l ∙ same in cc)
 
-pub after_both : (last : Option ObjectId) (o q : ObjectId) → IsAfter last o → object_cmp o q ≡ Less → IsAfter last q
+pub after_both : (last : Option ObjectId) (o q : ObjectId) → IsBehind last o → object_cmp o q ≡ Less → IsBehind last q
 after_both None o q one two = tt
 after_both (Some p) o q one two = total-law.trans p o q one two
 
@@ -131,9 +131,9 @@ module _ {X : Type 0} (v : X → SeatView) (told : Type 0) where
   pub record Walk (last : Option ObjectId) (xs ys : List X) (old new : List (ObjectId × KnownState)) : Type 0 where
     pub sound : AreSound told v ys new
     pub keys : keys_of new ≡ keys_of old
-    pub known : (q : ObjectId) → IsAfter last q → known_at new q ≡ known_at old q
-    pub waits : (q : ObjectId) → IsAfter last q → AllUntouched told v q xs ys
-    pub done : (q : ObjectId) → (IsAfter last q → ⊥) → (before : ObjectState) → Awaits told v q xs (known_at old q) before → told → IsCrashImage before (told_at v ys new q)
+    pub known : (q : ObjectId) → IsBehind last q → known_at new q ≡ known_at old q
+    pub waits : (q : ObjectId) → IsBehind last q → AllUntouched told v q xs ys
+    pub done : (q : ObjectId) → (IsBehind last q → ⊥) → (before : ObjectState) → Awaits told v q xs (known_at old q) before → told → IsCrashImage before (told_at v ys new q)
     pub losses : told → (q : ObjectId) → losses_of v ys q ≡ losses_of v xs q
     pub later : counts_of v xs ≤ counts_of v ys
     pub each : AllEndure told v xs ys
@@ -150,22 +150,22 @@ module _ {X : Type 0} (v : X → SeatView) (told : Type 0) where
     each = all_same told v xs;
   }
 
-  pub walk_can : (last : Option ObjectId) (xs ys : List X) (old new : List (ObjectId × KnownState)) (o : ObjectId) → Walk last xs ys old new → IsAfter last o → CanLevel told v o xs (known_at old o) → CanLevel told v o ys (known_at new o)
+  pub walk_can : (last : Option ObjectId) (xs ys : List X) (old new : List (ObjectId × KnownState)) (o : ObjectId) → Walk last xs ys old new → IsBehind last o → CanLevel told v o xs (known_at old o) → CanLevel told v o ys (known_at new o)
   walk_can last xs ys old new o w a can = subst (CanLevel told v o ys) (sym (w.known o a)) (can_still o xs ys (known_at old o) (w.waits o a) can)
 
   nothing_there : (xs ys zs : List X) (old new : List (ObjectId × KnownState)) (q : ObjectId) (before : ObjectState) → known_at old q ≡ None → known_at new q ≡ None → Awaits told v q xs (known_at old q) before → IsCrashImage before (told_at v zs new q)
   nothing_there xs ys zs old new q before was is awaits = missing_image before (told_at v zs new q) (subst (λ o. Awaits told v q xs o before) was awaits) (ap (λ o. told_of o (column v zs q)) is)
 
   -- a step
-  module _ (exact : (x y : ObjectId) → object_cmp x y ≡ Equal → x ≡ y) (last : Option ObjectId) (xs ys zs : List X) (old new newer : List (ObjectId × KnownState)) (o : ObjectId) (w : Walk last xs ys old new) (behind : IsAfter last o) (first : (q : ObjectId) → IsAfter last q → IsSome (known_at new q) → object_cmp q o ≡ Less → ⊥) (touched : AllTouch told v o ys zs) (here : IsSoundAt told v zs o (known_at newer o)) (others : (q : ObjectId) → q ≢ o → known_at newer q ≡ known_at new q) where
+  module _ (exact : (x y : ObjectId) → object_cmp x y ≡ Equal → x ≡ y) (last : Option ObjectId) (xs ys zs : List X) (old new newer : List (ObjectId × KnownState)) (o : ObjectId) (w : Walk last xs ys old new) (behind : IsBehind last o) (first : (q : ObjectId) → IsBehind last q → IsSome (known_at new q) → object_cmp q o ≡ Less → ⊥) (touched : AllTouch told v o ys zs) (here : IsSoundAt told v zs o (known_at newer o)) (others : (q : ObjectId) → q ≢ o → known_at newer q ≡ known_at new q) where
     at_last : ((before : ObjectState) → Awaits told v o ys (known_at new o) before → told → IsCrashImage before (told_at v zs newer o)) → (before : ObjectState) → Awaits told v o xs (known_at old o) before → told → IsCrashImage before (told_at v zs newer o)
     at_last image before awaits t = image before (subst (λ k. Awaits told v o ys k before) (sym (w.known o behind)) (awaits_still o xs ys (known_at old o) before (w.waits o behind) awaits)) t
 
-    passed : (q : ObjectId) → q ≢ o → IsAfter last q → (object_cmp o q ≡ Less → ⊥) → (k : Option KnownState) → known_at new q ≡ k → k ≡ None
+    passed : (q : ObjectId) → q ≢ o → IsBehind last q → (object_cmp o q ≡ Less → ⊥) → (k : Option KnownState) → known_at new q ≡ k → k ≡ None
     passed q other a late None is = refl
     passed q other a late (Some k) is = absurd (first q a (some_is (known_at new q) k is) (is_before exact o q other late))
 
-    other_done : (q : ObjectId) → q ≢ o → (object_cmp o q ≡ Less → ⊥) → IsAfter last q ⊎ (IsAfter last q → ⊥) → (before : ObjectState) → Awaits told v q xs (known_at old q) before → told → IsCrashImage before (told_at v zs newer q)
+    other_done : (q : ObjectId) → q ≢ o → (object_cmp o q ≡ Less → ⊥) → IsBehind last q ⊎ (IsBehind last q → ⊥) → (before : ObjectState) → Awaits told v q xs (known_at old q) before → told → IsCrashImage before (told_at v zs newer q)
     other_done q other late (inl a) before awaits t =
         let none = passed q other a late (known_at new q) refl in
         nothing_there xs ys zs old newer q before (sym (w.known q a) ∙ none) (others q other ∙ none) awaits
@@ -197,10 +197,10 @@ module _ {X : Type 0} (v : X → SeatView) (told : Type 0) where
           each = all_both told v xs ys zs w.each (all_at told v o ys zs touched levelled);
         }
 
-  pub walk_end : (last : Option ObjectId) (xs ys : List X) (old new : List (ObjectId × KnownState)) → Walk last xs ys old new → ((q : ObjectId) → IsAfter last q → known_at new q ≡ None) → (q : ObjectId) (before : ObjectState) → Awaits told v q xs (known_at old q) before → told → IsCrashImage before (told_at v ys new q)
+  pub walk_end : (last : Option ObjectId) (xs ys : List X) (old new : List (ObjectId × KnownState)) → Walk last xs ys old new → ((q : ObjectId) → IsBehind last q → known_at new q ≡ None) → (q : ObjectId) (before : ObjectState) → Awaits told v q xs (known_at old q) before → told → IsCrashImage before (told_at v ys new q)
   walk_end last xs ys old new w none q before awaits t = by (after_or last q)
     where
-      by : IsAfter last q ⊎ (IsAfter last q → ⊥) → IsCrashImage before (told_at v ys new q)
+      by : IsBehind last q ⊎ (IsBehind last q → ⊥) → IsCrashImage before (told_at v ys new q)
       by (inl a) = nothing_there xs ys ys old new q before (sym (w.known q a) ∙ none q a) (none q a) awaits
       by (inr na) = w.done q na before awaits t
 

@@ -4,7 +4,7 @@ use Rattle.std.specs.List.{AllByRecursion, AllZip}
 use Rattle.gw_outside.specs.Causes.{Rose}
 use Rattle.gw_outside.specs.declared.tally.Tally.{Tally}
 use Rattle.replica_store.specs.Copying.{Extends}
-use Rattle.replica_store.specs.Parts.{PartState, IsCalled}
+use Rattle.replica_store.specs.Parts.{PartView, IsCalled}
 
 -- a front of these bytes, with so many at least
 pub record IsFront (bytes : List ℕ) (least : ℕ) (content : List ℕ) : Type 0 where
@@ -12,15 +12,15 @@ pub record IsFront (bytes : List ℕ) (least : ℕ) (content : List ℕ) : Type 
   pub front : content ≡ take (length content) bytes
 
 -- all that are written are fronts of these bytes
-abbrev pub AreFronts : Type 0 → List ℕ → ℕ → List PartState → Type 0
+abbrev pub AreFronts : Type 0 → List ℕ → ℕ → List PartView → Type 0
 AreFronts told bytes least ps = AllByRecursion (λ p. p.live ≡ true → told → IsFront bytes least p.content) ps
 
 -- what came of those that were written are fronts of these bytes
-abbrev pub StayFronts : Type 0 → List ℕ → ℕ → List PartState → List PartState → Type 0
+abbrev pub StayFronts : Type 0 → List ℕ → ℕ → List PartView → List PartView → Type 0
 StayFronts told bytes least olds news = AllZip (λ p q. p.live ≡ true → told → IsFront bytes least q.content) olds news
 
 -- the number that is kept of each is its length
-abbrev pub AreMeasured : List PartState → Type 0
+abbrev pub AreMeasured : List PartView → Type 0
 AreMeasured ps = AllByRecursion (λ p. p.kept ≡ length p.content) ps
 
 -- the calls that failed may have become more
@@ -33,7 +33,7 @@ HasFailed old new = Rose old.failed new.failed
 
 -- a file that calls were made on: it is the same file with what it had in front, and is dropped only
 -- where a call failed; one that isn't written any more stays as it is
-pub record Serves (told : Type 0) (old new : PartState) : Type 0 where
+pub record Serves (told : Type 0) (old new : PartView) : Type 0 where
   pub live : new.live ≡ true → old.live ≡ true
   pub idle : old.live ≡ false → told → new.content ≡ old.content
   pub front : told → old.content ≡ take (length old.content) new.content
@@ -43,7 +43,7 @@ pub record Serves (told : Type 0) (old new : PartState) : Type 0 where
   pub dropped : IsCalled old → new.live ≡ false → HasFailed old.tally new.tally
 
 -- its length is noted
-pub record Measures (old new : PartState) : Type 0 where
+pub record Measures (old new : PartView) : Type 0 where
   pub mark : new.mark ≡ old.mark
   pub tally : new.tally ≡ old.tally
   pub live : new.live ≡ old.live
@@ -52,24 +52,24 @@ pub record Measures (old new : PartState) : Type 0 where
   pub measured : new.kept ≡ length new.content
 
 -- what others lack is read of it
-pub record Lends (told : Type 0) (old new : PartState) : Type 0 where
+pub record Lends (told : Type 0) (old new : PartView) : Type 0 where
   pub serves : Serves told old new
   pub content : told → new.content ≡ old.content
 
 -- it gets what it lacks of these bytes, or a part of that
-pub record CatchesUp (told : Type 0) (source : List ℕ) (old new : PartState) : Type 0 where
+pub record CatchesUp (told : Type 0) (source : List ℕ) (old new : PartView) : Type 0 where
   pub serves : Serves told old new
   pub content : told → Extends source old.content new.content
 
 -- it gets all that it lacks of these bytes, if it is written still
-pub record Completes (told : Type 0) (source : List ℕ) (old new : PartState) : Type 0 where
+pub record Completes (told : Type 0) (source : List ℕ) (old new : PartView) : Type 0 where
   pub catches : CatchesUp told source old new
   pub whole : new.live ≡ true → told → length source ≤ length new.content
 
 -- a file has these bytes, all of them durable
-pub record IsLevel (bytes : List ℕ) (p : PartState) : Type 0 where
+pub record IsLevel (bytes : List ℕ) (p : PartView) : Type 0 where
   pub content : p.content ≡ bytes
   pub durable : length bytes ≤ p.durable
 
-abbrev pub AreLevel : Type 0 → List ℕ → List PartState → Type 0
+abbrev pub AreLevel : Type 0 → List ℕ → List PartView → Type 0
 AreLevel told bytes ps = AllByRecursion (λ p. p.live ≡ true → told → IsLevel bytes p) ps

@@ -17,7 +17,7 @@ abbrev pub AreSound : {X : Type 0} → Type 0 → (X → SeatView) → List X �
 AreSound told v ss known = (q : ObjectId) → IsSoundAt told v ss q (known_at known q)
 
 -- the list and the members go together, and other objects stay as they are
-pub record LeavesOthers {X : Type 0} (told : Type 0) (v : X → SeatView) (object : ObjectId)
+pub record LeavesOtherObjects {X : Type 0} (told : Type 0) (v : X → SeatView) (object : ObjectId)
     (olds news : List X) (old new : List (ObjectId × KnownState)) : Type 0 where
   pub sound : AreSound told v news new
   pub others : told → (q : ObjectId) → q ≢ object → told_at v news new q ≡ told_at v olds old q
@@ -27,7 +27,7 @@ pub record LeavesOthers {X : Type 0} (told : Type 0) (v : X → SeatView) (objec
 -- the object is there, unless no member is called any more, or memory was refused
 pub record CreatesIn {X T E : Type 0} (told : Type 0) (v : X → SeatView) (object : ObjectId)
     (olds news : List X) (old new : List (ObjectId × KnownState)) (result : Result T E) : Type 0 where
-  pub rest : LeavesOthers told v object olds news old new
+  pub rest : LeavesOtherObjects told v object olds news old new
   pub done : OnOk result (told → 0 < called_of v news → Creates (told_at v olds old object) (told_at v news new object))
   pub may : told → MayCreate (told_at v olds old object) (told_at v news new object)
   pub refused : OnErr result (told → told_at v news new object ≡ told_at v olds old object)
@@ -37,7 +37,7 @@ pub record CreatesIn {X T E : Type 0} (told : Type 0) (v : X → SeatView) (obje
 -- the object is gone, unless no member is called any more
 pub record DeletesIn {X : Type 0} (told : Type 0) (v : X → SeatView) (object : ObjectId)
     (olds news : List X) (old new : List (ObjectId × KnownState)) (called : Bool) : Type 0 where
-  pub rest : LeavesOthers told v object olds news old new
+  pub rest : LeavesOtherObjects told v object olds news old new
   pub tried : told → called ≡ true
   pub done : called ≡ true → told → 0 < called_of v news → told_at v news new object ≡ Missing
   pub may : told → (told_at v news new object ≡ told_at v olds old object) ⊎ (told_at v news new object ≡ Missing)
@@ -46,14 +46,14 @@ pub record DeletesIn {X : Type 0} (told : Type 0) (v : X → SeatView) (object :
 -- the file is out, or it is as before
 pub record TakesIn {X : Type 0} (told : Type 0) (v : X → SeatView) (object : ObjectId)
     (olds news : List X) (old new : List (ObjectId × KnownState)) (result : Option FilesState) : Type 0 where
-  pub rest : LeavesOthers told v object olds news old new
+  pub rest : LeavesOtherObjects told v object olds news old new
   pub losses : told → losses_of v news object ≡ losses_of v olds object
   pub taken : TakenOut told (told_at v olds old object) (told_at v news new object) result
 
 -- the object is as the file had it, if the file was taken of it
 pub record GivesIn {X : Type 0} (told : Type 0) (v : X → SeatView) (object : ObjectId)
     (olds news : List X) (old new : List (ObjectId × KnownState)) (k : KnownState) (given : Bool) : Type 0 where
-  pub rest : LeavesOthers told v object olds news old new
+  pub rest : LeavesOtherObjects told v object olds news old new
   pub own : told → told_at v olds old object ≡ Lent (joined (map (λ p. p.mark) k.parts))
       → told_at v news new object ≡ Kept (part_of k.parts k.chief).content
       (min k.synced (length (part_of k.parts k.chief).content))

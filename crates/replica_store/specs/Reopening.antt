@@ -6,7 +6,7 @@ use Rattle.gw_model.specs.declared.object.ObjectId.{ObjectId}
 use Rattle.append_store.specs.State.{ObjectState, Missing, Kept, Lent, IsAway, IsThere, IsCrashImage, MayCut}
 use Rattle.append_store.specs.Calls.{object_cmp}
 use Rattle.replica_store.specs.Levels.{AreFronts, AreLevel, IsFront}
-use Rattle.replica_store.specs.Parts.{PartState, part_of}
+use Rattle.replica_store.specs.Parts.{PartView, part_of}
 use Rattle.replica_store.specs.Kept.{NoneCalled}
 use Rattle.replica_store.specs.Seats.{SeatView, KnownState, column, state_of}
 
@@ -48,14 +48,14 @@ pub record IsGivenUp {X : Type 0} (told : Type 0) (v : X → SeatView) (q : Obje
   pub chief : told → state_of (column v ss q) k.chief ≡ Missing
 
 -- a file was written to the end: it has so many bytes, and all that are written have them durable
-pub record IsLed (told : Type 0) (olds news : List PartState) (lead kept : ℕ) : Type 0 where
+pub record IsLed (told : Type 0) (olds news : List PartView) (lead kept : ℕ) : Type 0 where
   pub there : lead < length news
   pub live : (part_of news lead).live ≡ true
   pub level : (bytes : List ℕ) (least : ℕ) → AreFronts told bytes least olds → AreLevel told (part_of news lead).content news
   pub length : told → length (part_of news lead).content ≡ kept
 
 -- none was
-pub record IsLeft (chief : ℕ) (news : List PartState) (lead kept : ℕ) : Type 0 where
+pub record IsLeft (chief : ℕ) (news : List PartView) (lead kept : ℕ) : Type 0 where
   pub same : lead ≡ chief
   pub all : kept ≡ 2 ^ 64 - 1
   pub none : AllByRecursion (λ p. p.live ≡ false) news
@@ -81,9 +81,9 @@ abbrev pub AllUntouched : {X : Type 0} → Type 0 → (X → SeatView) → Objec
 AllUntouched told v q olds news = AllZip (λ s t. Untouched told q (v s) (v t)) olds news
 
 -- behind the last object
-abbrev pub IsAfter : Option ObjectId → ObjectId → Type 0
-IsAfter None q = Unit {0}
-IsAfter (Some o) q = object_cmp o q ≡ Less
+abbrev pub IsBehind : Option ObjectId → ObjectId → Type 0
+IsBehind None q = Unit {0}
+IsBehind (Some o) q = object_cmp o q ≡ Less
 
 -- how many members have to be called after a start or a crash: a quorum, and so many that one of them is of each quorum
 abbrev pub needed_of : ℕ → ℕ → ℕ

@@ -7,7 +7,7 @@ use Rattle.gw_model.specs.declared.object.ObjectId.{ObjectId}
 use Rattle.append_store.specs.Calls.{object_cmp}
 use Rattle.append_store.specs.State.{ObjectState, Missing, Kept, Lent, IsAway}
 use Rattle.replica_store.specs.Marks.{joined}
-use Rattle.replica_store.specs.Parts.{PartState, one_if}
+use Rattle.replica_store.specs.Parts.{PartView, one_if}
 use Rattle.replica_store.specs.declared.calls.Answered.{Answered}
 use Rattle.replica_store.specs.declared.seats.Seat.{Seat}
 
@@ -27,7 +27,7 @@ seat_view at losses count s = record { at = at s.cluster; losses = losses s.clus
 pub record KnownState : Type 0 where
   pub chief : ℕ
   pub synced : ℕ
-  pub parts : List PartState
+  pub parts : List PartView
 
 -- what the members have of an object
 abbrev pub column : {X : Type 0} → (X → SeatView) → List X → ObjectId → List ObjectState
@@ -57,48 +57,48 @@ mark_in Missing = None
 mark_in (Kept bytes durable) = None
 mark_in (Lent m) = Some m
 
-abbrev pub same_bytes : List ℕ → List ℕ → Bool
-same_bytes [] [] = true
-same_bytes [] (y ∷ ys) = false
-same_bytes (x ∷ xs) [] = false
-same_bytes (x ∷ xs) (y ∷ ys) = eqb x y && same_bytes xs ys
+abbrev pub is_same_content : List ℕ → List ℕ → Bool
+is_same_content [] [] = true
+is_same_content [] (y ∷ ys) = false
+is_same_content (x ∷ xs) [] = false
+is_same_content (x ∷ xs) (y ∷ ys) = eqb x y && is_same_content xs ys
 
 -- these bytes, and at least so many of them durable
 abbrev pub is_copy : List ℕ → ℕ → ObjectState → Bool
 is_copy bytes synced Missing = false
-is_copy bytes synced (Kept content durable) = same_bytes bytes content && leb synced durable
+is_copy bytes synced (Kept content durable) = is_same_content bytes content && leb synced durable
 is_copy bytes synced (Lent m) = false
 
-abbrev pub is_in : ObjectState → Bool
-is_in Missing = true
-is_in (Kept bytes durable) = true
-is_in (Lent m) = false
+abbrev pub is_at_home : ObjectState → Bool
+is_at_home Missing = true
+is_at_home (Kept bytes durable) = true
+is_at_home (Lent m) = false
 
 -- a member that takes part has a copy, and the object is out of none
-abbrev pub fits : List ℕ → ℕ → Bool → ObjectState → Bool
-fits bytes synced true state = is_copy bytes synced state
-fits bytes synced false state = is_in state
+abbrev pub is_in_place : List ℕ → ℕ → Bool → ObjectState → Bool
+is_in_place bytes synced true state = is_copy bytes synced state
+is_in_place bytes synced false state = is_at_home state
 
 -- fewer than 2^63 bytes, the limit of a file
 abbrev pub is_low : List ℕ → Bool
 is_low bytes = leb (length bytes) (2 ^ 63 - 1)
 
 -- so it is of each member, and the bytes are those of a file
-abbrev pub are_copies : List ℕ → ℕ → List PartState → List ObjectState → Bool
+abbrev pub are_copies : List ℕ → ℕ → List PartView → List ObjectState → Bool
 are_copies bytes synced [] [] = is_low bytes
 are_copies bytes synced [] (s ∷ ss) = false
 are_copies bytes synced (p ∷ ps) [] = false
-are_copies bytes synced (p ∷ ps) (s ∷ ss) = fits bytes synced p.live s && are_copies bytes synced ps ss
+are_copies bytes synced (p ∷ ps) (s ∷ ss) = is_in_place bytes synced p.live s && are_copies bytes synced ps ss
 
 -- no member takes part
-abbrev pub none_live : List PartState → Bool
+abbrev pub none_live : List PartView → Bool
 none_live [] = true
 none_live (p ∷ ps) = not p.live && none_live ps
 
 -- the object isn't out, and no member takes part
-abbrev pub is_given_up : List PartState → Bool
-is_given_up [] = false
-is_given_up (p ∷ ps) = none_live (p ∷ ps)
+abbrev pub has_no_member : List PartView → Bool
+has_no_member [] = false
+has_no_member (p ∷ ps) = none_live (p ∷ ps)
 
 -- what one member has
 abbrev pub state_of : List ObjectState → ℕ → ObjectState
@@ -109,7 +109,7 @@ state_of (s ∷ ss) (suc k) = state_of ss k
 -- What the store tells of an object that its list has, by what the chief has of it. Where those that
 -- take part aren't copies of one another, as after a foreign file was given back, it is out for good.
 abbrev pub told_by : KnownState → List ObjectState → ObjectState → ObjectState
-told_by k states Missing = if is_given_up k.parts then Missing else Lent []
+told_by k states Missing = if has_no_member k.parts then Missing else Lent []
 told_by k states (Kept bytes durable) =
     if are_copies bytes k.synced k.parts states then Kept bytes (min k.synced (length bytes)) else Lent []
 told_by k states (Lent m) = Lent (joined (map mark_in states))
@@ -123,10 +123,10 @@ abbrev pub known_at : List (ObjectId × KnownState) → ObjectId → Option Know
 known_at known q = lookup (is_at (object_cmp q)) known
 
 -- each member that is called takes part in an object that isn't out
-abbrev pub TakesPart : SeatView → PartState → Type 0
+abbrev pub TakesPart : SeatView → PartView → Type 0
 TakesPart s p = s.live ≡ true → p.live ≡ true
 
-abbrev pub AllTakePart : {X : Type 0} → (X → SeatView) → List X → List PartState → Type 0
+abbrev pub AllTakePart : {X : Type 0} → (X → SeatView) → List X → List PartView → Type 0
 AllTakePart v ss [] = Unit {0}
 AllTakePart v ss (p ∷ ps) = AllZip (λ s p. TakesPart (v s) p) ss (p ∷ ps)
 
@@ -140,7 +140,7 @@ IsSoundAt told v ss q None = AllByRecursion (λ s. IsUnused told q (v s)) ss
 IsSoundAt told v ss q (Some k) = AllTakePart v ss k.parts
 
 -- the list and the members go together
-pub record IsSound {X : Type 0} (told : Type 0) (v : X → SeatView) (ss : List X)
+pub record IsSoundReplica {X : Type 0} (told : Type 0) (v : X → SeatView) (ss : List X)
     (known : List (ObjectId × KnownState)) (quorum : ℕ) : Type 0 where
   pub enough : 0 < quorum
   pub each : (q : ObjectId) → IsSoundAt told v ss q (known_at known q)

@@ -6,7 +6,7 @@ use Rattle.gw_model.specs.declared.object.ObjectId.{ObjectId}
 use Rattle.gw_outside.specs.Causes.{Carries}
 use Rattle.append_store.specs.State.{ObjectState, Missing, Kept, Lent, IsAway, bytes_of}
 use Rattle.append_store.specs.Calls.{Guards, Lists}
-use Rattle.replica_store.specs.Parts.{PartState}
+use Rattle.replica_store.specs.Parts.{PartView}
 use Rattle.replica_store.specs.Seats.{SeatView, IsUnused, mark_in}
 
 -- each member before and after, with its part before and after
@@ -35,7 +35,7 @@ pub record Stays (told : Type 0) (old new : SeatView) : Type 0 where
   pub later : old.count ≤ new.count
 
 -- a deletion: a member where it fails is dropped, and one that isn't called stays as it is
-pub record Deletes (told : Type 0) (object : ObjectId) (old new : SeatView) (part given : PartState) : Type 0 where
+pub record Deletes (told : Type 0) (object : ObjectId) (old new : SeatView) (part given : PartView) : Type 0 where
   pub rest : Touches told object old new
   pub flag : given.live ≡ new.live
   pub done : new.live ≡ true → told → new.at object ≡ Missing
@@ -50,7 +50,7 @@ pub record IsTried (told : Type 0) (object : ObjectId) (s : SeatView) : Type 0 w
   pub inside : told → IsAway (s.at object) → ⊥
 
 -- a creation: a member where it fails is dropped, but one that is refused memory
-pub record Makes (told : Type 0) (object : ObjectId) (old new : SeatView) (part given : PartState) : Type 0 where
+pub record Makes (told : Type 0) (object : ObjectId) (old new : SeatView) (part given : PartView) : Type 0 where
   pub rest : Touches told object old new
   pub flag : given.live ≡ new.live
   pub tried : IsTried told object new
@@ -63,12 +63,12 @@ pub record Unmakes (told : Type 0) (object : ObjectId) (old new : SeatView) : Ty
   pub losses : told → old.losses object ≤ new.losses object
 
 -- the member gave its file, or nothing
-abbrev pub TakenAs : PartState → Option (List ObjectId) → ObjectState → ObjectState → Type 0
+abbrev pub TakenAs : PartView → Option (List ObjectId) → ObjectState → ObjectState → Type 0
 TakenAs given None old new = new ≡ old
 TakenAs given (Some m) old new = (old ≡ Kept given.content given.durable) × (new ≡ Lent m)
 
 -- a member that is called gives its file, or fails
-pub record Takes (told : Type 0) (object : ObjectId) (old new : SeatView) (part given : PartState) : Type 0 where
+pub record TakesFile (told : Type 0) (object : ObjectId) (old new : SeatView) (part given : PartView) : Type 0 where
   pub rest : Touches told object old new
   pub there : given.live ≡ is_some given.mark
   pub called : given.live ≡ true → old.live ≡ true
@@ -77,12 +77,12 @@ pub record Takes (told : Type 0) (object : ObjectId) (old new : SeatView) (part 
   pub fresh : given.count ≡ 0
 
 -- the member has what its file had, or gets nothing
-abbrev pub GivenAs : PartState → Option (List ObjectId) → ObjectState → ObjectState → Type 0
+abbrev pub GivenAs : PartView → Option (List ObjectId) → ObjectState → ObjectState → Type 0
 GivenAs part None old new = new ≡ old
 GivenAs part (Some m) old new = new ≡ Kept part.content part.durable
 
 -- a member gets its file back, if it gave one; it is dropped where the file was, or where it gave none
-pub record Gives (told : Type 0) (object : ObjectId) (old new : SeatView) (part given : PartState) : Type 0 where
+pub record GivesFile (told : Type 0) (object : ObjectId) (old new : SeatView) (part given : PartView) : Type 0 where
   pub rest : Touches told object old new
   pub flag : given.live ≡ new.live
   pub live : new.live ≡ true → part.live ≡ true

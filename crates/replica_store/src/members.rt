@@ -5,7 +5,7 @@ ghost use Rattle.append_store.specs.State.{IsAway, IsThere, bytes_of};
 ghost use Rattle.append_store.specs.Calls.{Creates, IsRising, part_at};
 ghost use Rattle.replica_store.specs.Seats.{IsUnused, seat_view};
 ghost use Rattle.replica_store.specs.Starting.{Supplies};
-ghost use Rattle.replica_store.specs.Steps.{Deletes, Gives, IsListedBy, IsTried, Makes, Stays, Takes, Unmakes};
+ghost use Rattle.replica_store.specs.Steps.{Deletes, GivesFile, IsListedBy, IsTried, Makes, Stays, TakesFile, Unmakes};
 
 use crate::parts::Part;
 use crate::seats::Seat;
@@ -71,7 +71,7 @@ pub(crate) fn unmake_one<C: Cluster>(seat: &mut Seat<C>, object: ObjectId)
 // Takes the file of one member, if it is called and gives it.
 pub(crate) fn take_one<C: Cluster>(seat: &mut Seat<C>, object: ObjectId, part: &mut Part<C::File>)
     requires { C.File.tells → seat.old.live ≡ true → IsThere (C.at seat.old.cluster object) }
-    ensures { Takes C.File.tells object (seat_view C.at C.losses C.count seat.old) (seat_view C.at C.losses C.count seat.new) part.old
+    ensures { TakesFile C.File.tells object (seat_view C.at C.losses C.count seat.old) (seat_view C.at C.losses C.count seat.new) part.old
         part.new }
 {
     *part = Part::missing();
@@ -84,7 +84,7 @@ pub(crate) fn take_one<C: Cluster>(seat: &mut Seat<C>, object: ObjectId, part: &
 
 // Gives a member its file back, if it gave one, and drops it where the file was.
 pub(crate) fn give_one<C: Cluster>(seat: &mut Seat<C>, object: ObjectId, part: &mut Part<C::File>)
-    ensures { Gives C.File.tells object (seat_view C.at C.losses C.count seat.old) (seat_view C.at C.losses C.count seat.new) part.old
+    ensures { GivesFile C.File.tells object (seat_view C.at C.losses C.count seat.old) (seat_view C.at C.losses C.count seat.new) part.old
         part.new }
 {
     seat.live = seat.live && part.live;

@@ -2,7 +2,7 @@
 ghost use Rattle.std.specs.Prelude.{ℕ, List, ◌≡◌, ◌<◌, ◌+◌, vec_len, ◌^◌, ◌-◌, take, min, length, true, false, IfSome, IfNone, Some};
 ghost use Rattle.append_store.specs.Calls.{part_at};
 ghost use Rattle.std.specs.List.{AllByRecursion, AllZip};
-ghost use Rattle.replica_store.specs.Parts.{Appends, DropsShort, FailsToRead, HaveBytes, IsIdle, IsLead, Leads, Reads, Syncs, counts, live_of, part_of};
+ghost use Rattle.replica_store.specs.Parts.{Appends, DropsShort, FailsToRead, HaveBytes, IsIdle, IsLead, LeadsAppend, ReadsFile, Syncs, counts, live_of, part_of};
 
 use append_store::AppendFile;
 use std::marker::Model;
@@ -19,19 +19,19 @@ pub struct Part<F: AppendFile> {
 }
 
 impl<F: AppendFile> Model for Part<F> {
-    ghost use Rattle.replica_store.specs.Parts.{PartState, part_state};
+    ghost use Rattle.replica_store.specs.Parts.{PartView, part_view};
 
-    ghost Value = { PartState };
+    ghost Value = { PartView };
 
-    ghost view = { λ p. part_state F.mark F.content F.durable F.count F.tally p.file p.live p.kept };
+    ghost view = { λ p. part_view F.mark F.content F.durable F.count F.tally p.file p.live p.kept };
 }
 
 impl<F: AppendFile> Part<F> {
-    ghost use Rattle.replica_store.specs.Parts.{empty_part, part_state};
+    ghost use Rattle.replica_store.specs.Parts.{empty_part, part_view};
 
     /// The file that a member gave.
     pub fn given(file: F) -> Self
-        ensures { result ≡ part_state F.mark F.content F.durable F.count F.tally (Some file) true 0 }
+        ensures { result ≡ part_view F.mark F.content F.durable F.count F.tally (Some file) true 0 }
     {
         Part {
             file: Some(file),
@@ -71,7 +71,7 @@ impl<F: AppendFile> Part<F> {
 
     /// The file, if the member gave one.
     pub fn into_file(self) -> Option<F>
-        ensures { self ≡ part_state F.mark F.content F.durable F.count F.tally result self.live self.kept }
+        ensures { self ≡ part_view F.mark F.content F.durable F.count F.tally result self.live self.kept }
     {
         self.file
     }
@@ -202,7 +202,7 @@ pub(crate) struct Lead {
 
 // Adds bytes to each file that is still written, and drops those that kept fewer than the most.
 pub(crate) fn append_all<F: AppendFile>(parts: &mut Vec<Part<F>>, bytes: &[u8]) -> Option<Lead>
-    ensures some { IfSome result (λ lead. Leads F.tells bytes.now parts.old.items parts.new.items lead.index lead.kept) }
+    ensures some { IfSome result (λ lead. LeadsAppend F.tells bytes.now parts.old.items parts.new.items lead.index lead.kept) }
     ensures none { IfNone result (IsIdle F.tells bytes.now parts.old.items parts.new.items) }
 {
     append_each(parts, bytes);
@@ -261,7 +261,7 @@ pub(crate) fn read_one<F: AppendFile>(
     offset: u64,
     out: &mut [u8],
 ) -> Option<usize>
-    ensures part { Reads F.tells part.old part.new }
+    ensures part { ReadsFile F.tells part.old part.new }
     ensures length { IfSome result (λ n. n ≡ min (length out.old) (size - offset)) }
     ensures bytes { IfSome result (λ n. F.tells → take n out.new ≡ part_at part.old.content offset n) }
     ensures live { IfSome result (λ n. part.old.live ≡ true) }
@@ -286,7 +286,7 @@ pub(crate) fn read_first<F: AppendFile>(
     offset: u64,
     out: &mut [u8],
 ) -> Option<usize>
-    ensures pairs { AllZip (Reads F.tells) parts.old.items parts.new.items }
+    ensures pairs { AllZip (ReadsFile F.tells) parts.old.items parts.new.items }
     ensures length { IfSome result (λ n. n ≡ min (length out.old) (size - offset)) }
     ensures bytes { IfSome result (λ n. (b : List ℕ) → F.tells → HaveBytes b parts.old.items → take n out.new ≡ part_at b offset n) }
     ensures failed { IfNone result (AllZip (FailsToRead F.tells size) parts.old.items parts.new.items) }

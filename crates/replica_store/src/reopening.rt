@@ -9,7 +9,7 @@ ghost use Rattle.append_store.specs.Calls.{object_cmp};
 ghost use Rattle.replica_store.specs.Kept.{AllTouch, told_now};
 ghost use Rattle.replica_store.specs.Objects.{AreSound, told_at};
 ghost use Rattle.replica_store.specs.Levels.{AreFronts, Serves, StayFronts};
-ghost use Rattle.replica_store.specs.Reopening.{Awaits, AwaitsLevel, CanLevel, Crashes, IsAfter, IsGivenUp, IsLed, IsLeft, needed_of};
+ghost use Rattle.replica_store.specs.Reopening.{Awaits, AwaitsLevel, CanLevel, Crashes, IsBehind, IsGivenUp, IsLed, IsLeft, needed_of};
 ghost use Rattle.replica_store.specs.Starting.{AllEndure, AllLevelled};
 ghost use Rattle.replica_store.specs.Seats.{AllTakePart, IsSoundAt, column, counts_of, losses_of, seat_view, told_of};
 
@@ -95,9 +95,9 @@ fn next_object<F: AppendFile>(
     last: Option<ObjectId>,
 ) -> Option<ObjectId>
     ensures found { IfSome result (λ o. IsSome (get object_cmp known.now o)) }
-    ensures behind { IfSome result (λ o. IsAfter last o) }
-    ensures first { IfSome result (λ o. (q : ObjectId) → IsAfter last q → IsSome (get object_cmp known.now q) → object_cmp q o ≡ Less → ⊥) }
-    ensures none { IfNone result ((q : ObjectId) → IsAfter last q → get object_cmp known.now q ≡ None) }
+    ensures behind { IfSome result (λ o. IsBehind last o) }
+    ensures first { IfSome result (λ o. (q : ObjectId) → IsBehind last q → IsSome (get object_cmp known.now q) → object_cmp q o ≡ Less → ⊥) }
+    ensures none { IfNone result ((q : ObjectId) → IsBehind last q → get object_cmp known.now q ≡ None) }
 {
     let start = match last {
         Some(object) => Bound::Excluded(object),
@@ -110,7 +110,7 @@ fn next_object<F: AppendFile>(
 }
 
 // Whether the object isn't out: then it has a place for each member.
-fn is_in<F: AppendFile>(kept: &Known<F>, places: usize) -> bool
+fn is_at_home<F: AppendFile>(kept: &Known<F>, places: usize) -> bool
     ensures full { result ≡ true → length kept.now.parts ≡ places }
     ensures out { result ≡ false → length kept.now.parts ≢ places }
 {
@@ -140,7 +140,7 @@ fn level_at<C: Cluster>(
 {
     let places = seats.len();
     if let Some(kept) = known.get_mut(&object) {
-        if is_in(kept, places) {
+        if is_at_home(kept, places) {
             level_kept(seats, kept, object);
         }
     }

@@ -6,7 +6,7 @@ ghost use Rattle.append_store.specs.State.{IsAway, IsThere};
 ghost use Rattle.append_store.specs.Calls.{Creates, IsRising, part_at};
 ghost use Rattle.replica_store.specs.Seats.{IsUnused, seat_view};
 ghost use Rattle.replica_store.specs.Starting.{Supplies};
-ghost use Rattle.replica_store.specs.Steps.{AllHave, Deletes, Gives, IsListedBy, IsTried, Makes, SomeSeat, Stays, Takes, Together, Unmakes};
+ghost use Rattle.replica_store.specs.Steps.{AllHave, Deletes, GivesFile, IsListedBy, IsTried, Makes, SomeSeat, Stays, TakesFile, Together, Unmakes};
 
 use crate::members::{
     delete_one, give_one, list_one, make_one, read_closed_one, supply_one, take_one, unmake_one,
@@ -57,7 +57,7 @@ pub(crate) fn take_each<C: Cluster>(
 )
     requires there { AllByRecursion (λ s. C.File.tells → s.live ≡ true → IsThere (C.at s.cluster object)) seats.old.items }
     requires places { length parts.old.items ≡ length seats.old.items }
-    ensures { Together (λ s t p q. Takes C.File.tells object (seat_view C.at C.losses C.count s) (seat_view C.at C.losses C.count t) p q)
+    ensures { Together (λ s t p q. TakesFile C.File.tells object (seat_view C.at C.losses C.count s) (seat_view C.at C.losses C.count t) p q)
         seats.old.items seats.new.items parts.old.items parts.new.items }
 {
     for i in 0..seats.len() {
@@ -72,7 +72,7 @@ pub(crate) fn give_each<C: Cluster>(
     parts: &mut Vec<Part<C::File>>,
 )
     requires places { length parts.old.items ≡ length seats.old.items }
-    ensures { Together (λ s t p q. Gives C.File.tells object (seat_view C.at C.losses C.count s) (seat_view C.at C.losses C.count t) p q)
+    ensures { Together (λ s t p q. GivesFile C.File.tells object (seat_view C.at C.losses C.count s) (seat_view C.at C.losses C.count t) p q)
         seats.old.items seats.new.items parts.old.items parts.new.items }
 {
     for i in 0..seats.len() {

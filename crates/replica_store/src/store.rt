@@ -38,13 +38,13 @@ pub struct Replica<C: Cluster> {
 }
 
 impl<C: Cluster> Model for Replica<C> {
-    ghost use Rattle.replica_store.specs.Seats.{ReplicaState, IsSound, seat_view};
+    ghost use Rattle.replica_store.specs.Seats.{ReplicaState, IsSoundReplica, seat_view};
 
     ghost Value = { ReplicaState C };
 
     ghost view = { λ r. record { seats = r.seats.items; known = r.known.entries; quorum = r.quorum; answered = r.answered } };
 
-    ghost invariant = { λ r. IsSound C.File.tells (seat_view C.at C.losses C.count) r.seats.items r.known.entries r.quorum };
+    ghost invariant = { λ r. IsSoundReplica C.File.tells (seat_view C.at C.losses C.count) r.seats.items r.known.entries r.quorum };
 }
 
 impl<C: Cluster> Replica<C> {
