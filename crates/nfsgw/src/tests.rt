@@ -1,7 +1,7 @@
 // Whole runs, over texts that were typed word by word from the RFCs.
 use crate::command::run_command;
 use crate::exit_codes::{exit_code, status_text};
-use append_store::MemCluster;
+use append_store::{MemCluster, Planned};
 use gw_model::ObjectId;
 use gw_outside::{MemSink, MemSource};
 use std::alloc::{AllocError, Global};
@@ -18,6 +18,21 @@ const UPLOAD: &str =
 
 const WROTE: &[u8] =
     b"reply 1 8000003400000001000000010000000000000000000000000000000000000000000000000000000000000005000000000000000000000001\ncontext 4 from 0\nwrite 1 0 5 put -\nended 4 end reach 5 stored 5 synced 0\n";
+
+// A WRITE and its turn, and two COMMITs of it, each with its turn and a sync.
+const COMMITS: &str =
+    "file data\nbytes 1 80000068000000010000000000000002000186a3000000030000000700000000000000000000000000000000000000200000000000000004000000000000000121e0f2975a84e78cec58787af28bde1400000000000000000000000500000000000000056162636465000000\nturn 4\nbytes 1 80000058000000020000000000000002000186a3000000030000001500000000000000000000000000000000000000200000000000000004000000000000000121e0f2975a84e78cec58787af28bde14000000000000000000000000\nturn 4\nsync 4\nbytes 1 80000058000000030000000000000002000186a3000000030000001500000000000000000000000000000000000000200000000000000004000000000000000121e0f2975a84e78cec58787af28bde14000000000000000000000000\nturn 4\nsync 4\nend\n";
+
+// The sync of the first COMMIT failed.
+const COMMITTED: &[u8] =
+    b"reply 1 8000003400000001000000010000000000000000000000000000000000000000000000000000000000000005000000000000000000000001\nreply 1 80000024000000020000000100000000000000000000000000000000000000050000000000000000\nreply 1 8000002c0000000300000001000000000000000000000000000000000000000000000000000000000000000000000001\ncontext 4 from 0\nwrite 1 0 5 put -\nended 4 end reach 5 stored 5 synced 5\n";
+
+// The fourth call of the body, which is its first sync, fails.
+const PLANNED: Planned = Planned {
+    object: Some(BODY),
+    call: 4,
+    kept: 0,
+};
 
 // NFS3ERR_ROFS.
 const REFUSED: &[u8] =
@@ -41,13 +56,23 @@ fn words_of(alloc: Global, texts: &[&str]) -> Result<Vec<String>, AllocError> {
 }
 
 fn run(alloc: Global, texts: &[&str], transcript: &str) -> Result<Outcome, Fail> {
+    run_over(alloc, texts, transcript, Vec::new(alloc))
+}
+
+// Over a store in which these calls fail.
+fn run_over(
+    alloc: Global,
+    texts: &[&str],
+    transcript: &str,
+    failing: Vec<Planned>,
+) -> Result<Outcome, Fail> {
     let words = words_of(alloc, texts)?;
     let mut source = MemSource::new(
         Vec::from_slice(alloc, transcript.as_bytes())?,
         Vec::new(alloc),
     );
     let mut sink = MemSink::new(alloc, Vec::new(alloc));
-    let mut cluster = MemCluster::new(alloc, Vec::new(alloc));
+    let mut cluster = MemCluster::new(alloc, failing);
     let status = run_command(alloc, &words, &mut source, &mut sink, &mut cluster);
     let content = match cluster.content_of(BODY) {
         Some(bytes) => Vec::from_slice(alloc, bytes)?,
@@ -66,6 +91,18 @@ fn a_write_is_put(rt: HostRuntime) -> Result<(), Fail> {
     let outcome = run(rt.alloc(), &["replay"], UPLOAD)?;
     assert_eq!(rt; outcome.code, 0);
     assert_eq!(rt; outcome.written.as_slice(), WROTE);
+    assert_eq!(rt; outcome.content.as_slice(), b"abcde".as_slice());
+    Ok(())
+}
+
+#[test]
+fn a_commit_waits_for_a_sync_that_is_done(rt: HostRuntime) -> Result<(), Fail> {
+    let alloc = rt.alloc();
+    let mut failing = Vec::new(alloc);
+    failing.push(PLANNED)?;
+    let outcome = run_over(alloc, &["replay"], COMMITS, failing)?;
+    assert_eq!(rt; outcome.code, 0);
+    assert_eq!(rt; outcome.written.as_slice(), COMMITTED);
     assert_eq!(rt; outcome.content.as_slice(), b"abcde".as_slice());
     Ok(())
 }
