@@ -472,12 +472,7 @@ impl<C: Cluster> World<C> {
         self.read_part(conn, file, call, cluster)
     }
 
-    fn commit_part(
-        &mut self,
-        conn: u32,
-        file: u64,
-        call: CommitCall,
-    ) -> Result<String, AllocError>
+    fn commit_part(&mut self, conn: u32, file: u64, call: CommitCall) -> Result<String, AllocError>
         ensures ok { (s : Store) → IfOk result (StepsTo C.File.tells (CommitFile conn call)
             (scene (state_at file self.old) s) (scene (state_at file self.new) s)) }
         ensures err { (s : Store) → OnErr result (IsActCut C.File.tells (CommitFile conn call)
