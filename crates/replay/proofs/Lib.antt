@@ -4,4 +4,3 @@ pub mod RunEnd
 pub mod RunEvents
 pub mod RunLines
 pub mod RunRows
-pub mod RunFailures
