@@ -1,0 +1,4 @@
+pub mod LastEntries
+pub mod LiveExtents
+pub mod SoundEntries
+pub mod SpillMoves

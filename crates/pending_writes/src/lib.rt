@@ -1,0 +1,9 @@
+//! The pending writes of one open file, in memory or on its spill device.
+#![tactic(auto)]
+
+mod reports;
+mod steps;
+mod writes;
+
+pub use reports::SpillMove;
+pub use writes::PendingWrites;

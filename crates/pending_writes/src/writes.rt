@@ -1,0 +1,94 @@
+// Pending writes with the spill file of their bytes.
+ghost use Rattle.std.specs.Prelude.{◌≡◌, true, length, slice_get, IfErr, OnErr, OnOk, IsTrue, []};
+ghost use Rattle.std.specs.Option.{option_copied};
+ghost use Rattle.range_map.specs.Entries.{commit_goal, is_in_memory, is_new, with_entry};
+ghost use Rattle.pending_writes.specs.Moves.{MovesLast};
+ghost use Rattle.pending_writes.specs.Writes.{beyond_first, first_reached, is_sound_entry};
+
+use crate::SpillMove;
+use crate::steps::move_last;
+use range_map::{Entry, PendingMap};
+use spill::{SpillDevice, SpillFile};
+use std::alloc::Global;
+use std::marker::Model;
+
+/// The pending writes of one open file, each in memory or in an extent of the spill file.
+#[derive(Drop)]
+pub struct PendingWrites<M: PendingMap, D: SpillDevice> {
+    map: M,
+    spill: SpillFile<D>,
+}
+
+impl<M: PendingMap, D: SpillDevice> Model for PendingWrites<M, D> {
+    ghost use Rattle.pending_writes.specs.Writes.{AreSoundEntries, PendingState, pending_state};
+
+    ghost Value = { PendingState };
+
+    ghost view = { λ p. pending_state (M.entries p.map) p.spill };
+
+    ghost invariant = { λ p. AreSoundEntries (pending_state (M.entries p.map) p.spill) };
+}
+
+impl<M: PendingMap, D: SpillDevice> PendingWrites<M, D> {
+    /// No pending write, over a spill file. Takes no memory.
+    pub fn new(alloc: Global, spill: SpillFile<D>) -> Self
+        ensures { result ≡ record { entries = []; spill = spill } }
+    {
+        PendingWrites {
+            map: M::new(alloc),
+            spill,
+        }
+    }
+
+    /// Puts an accepted write with its bytes where it belongs. For want of memory it hands the entry back and changes
+    /// nothing.
+    pub fn insert(&mut self, entry: Entry) -> Result<(), Entry>
+        requires new { IsTrue (is_new entry.number self.old.entries) }
+        requires here { is_in_memory entry ≡ true }
+        requires sound { is_sound_entry entry ≡ true }
+        ensures ok { OnOk result (self.new ≡ record self.old { entries = with_entry entry self.old.entries }) }
+        ensures back { IfErr result (λ e. e ≡ entry) }
+        ensures err { OnErr result (self.new ≡ self.old) }
+    {
+        self.map.insert(entry)
+    }
+
+    /// Takes the first entry off where it begins at or below a position. If it is on the device, its extent stays live.
+    pub fn take_first(&mut self, reach: u64) -> Option<Entry>
+        ensures first { result ≡ first_reached reach self.old.entries }
+        ensures rest { self.new ≡ record self.old { entries = beyond_first reach self.old.entries } }
+    {
+        match self.map.first() {
+            Some(entry) if entry.offset <= reach => self.map.pop_first(),
+            _ => None,
+        }
+    }
+
+    /// The bytes of the last entry in memory go to the device. Takes memory.
+    pub fn spill_one(&mut self) -> SpillMove
+        ensures step { MovesLast D.tells result self.old self.new }
+    {
+        move_last(&mut self.map, &mut self.spill)
+    }
+
+    /// The first entry.
+    pub fn first(&self) -> Option<&Entry>
+        ensures { option_copied result ≡ slice_get self.now.entries 0 }
+    {
+        self.map.first()
+    }
+
+    /// How far a file must reach until a COMMIT up to `limit` is complete, as a map of pending writes says it.
+    pub fn max_goal(&self, limit: u64) -> u64
+        ensures { result ≡ commit_goal limit self.now.entries }
+    {
+        self.map.max_goal(limit)
+    }
+
+    /// How many entries there are.
+    pub fn len(&self) -> usize
+        ensures { result ≡ length self.now.entries }
+    {
+        self.map.len()
+    }
+}
