@@ -20,7 +20,7 @@ use Rattle.range_map.proofs.SortedEntries.{and_true, both_true}
 use Rattle.pending_writes.specs.declared.reports.SpillMove.{SpillMove}
 use Rattle.pending_writes.specs.declared.reports.SpillMove.TheVariants as move
 use Rattle.pending_writes.specs.Extents.{are_live, held_extents, place_bytes, place_extents, place_size}
-use Rattle.pending_writes.specs.Moves.{HasRoom, IsMoved, IsNotMoved, MovesLast, failed_move, last_of_memory, next_extent}
+use Rattle.pending_writes.specs.Moves.{FitsBehindLast, IsMoved, IsNotMoved, MovesLast, failed_move, last_of_memory, next_extent}
 use Rattle.pending_writes.specs.Writes.{AreSoundEntries, PendingState, is_sound_entry, pending_state}
 use Rattle.pending_writes.proofs.LastEntries.{last_between, between_at, between_placed}
 use Rattle.pending_writes.proofs.LiveExtents.{live-add}
@@ -89,7 +89,7 @@ put_failed tells fail.NoRoom e es n old new found size room full no_room memory 
 put_failed tells fail.Memory e es n old new found size room full no_room memory fault region live kept tally =
     let fits : old.size < old.next + n → ⊥ = λ h. let no = full h in absurd (cc) in
     let has : old.next + e.count ≤ old.size = omega (arith, fits, size) in
-    (subst (λ (o : Option Entry). IsSomeAnd o (HasRoom (pending_state es old))) (sym found) has, ap (pending_state es) (memory refl))
+    (subst (λ (o : Option Entry). IsSomeAnd o (FitsBehindLast (pending_state es old))) (sym found) has, ap (pending_state es) (memory refl))
 put_failed tells fail.Fault e es n old new found size room full no_room memory fault region live kept tally =
     let fits : old.size < old.next + n → ⊥ = λ h. let no = full h in absurd (cc) in
     let has : old.next + e.count ≤ old.size = omega (arith, fits, size) in
@@ -101,7 +101,7 @@ put_failed tells fail.Fault e es n old new found size room full no_room memory f
       faults = fault refl;
       tally = tally refl;
     } in
-    subst (λ (o : Option Entry). IsSomeAnd o (λ x. HasRoom (pending_state es old) x × IsNotMoved tells x (pending_state es old) (pending_state es new))) (sym found) (has, left)
+    subst (λ (o : Option Entry). IsSomeAnd o (λ x. FitsBehindLast (pending_state es old) x × IsNotMoved tells x (pending_state es old) (pending_state es new))) (sym found) (has, left)
 
 -- a put that was done
 pub put_done : (tells : Type 0) (e : Entry) (es es' : List Entry) (number start n : ℕ) (x : Span) (bytes : List ℕ) (old new : SpillState) → last_of_memory es ≡ Some e
@@ -124,7 +124,7 @@ put_done tells e es es' number start n x bytes old new found size place is_numbe
       faults = faults;
       tally = tally;
     } in
-    subst (λ (o : Option Entry). IsSomeAnd o (λ y. HasRoom (pending_state es old) y × (number ≡ y.number) × (start ≡ old.next) × IsMoved tells y (pending_state es old) (pending_state es' new)))
+    subst (λ (o : Option Entry). IsSomeAnd o (λ y. FitsBehindLast (pending_state es old) y × (number ≡ y.number) × (start ≡ old.next) × IsMoved tells y (pending_state es old) (pending_state es' new)))
     (sym found) (has, is_number, is_start ∙ at, moved)
 
 -- The entries stay sound.
@@ -175,7 +175,7 @@ sound-moved tells move.Nothing old new ordered sound h = subst AreSoundEntries (
 sound-moved tells move.NoRoom old new ordered sound h = subst AreSoundEntries (sym h.1) sound
 sound-moved tells move.Memory old new ordered sound h = subst AreSoundEntries (sym h.1) sound
 sound-moved tells move.Fault old new ordered sound h =
-    let go : (o : Option Entry) → IsSomeAnd o (λ e. HasRoom old e × IsNotMoved tells e old new) → AreSoundEntries new = elim [
+    let go : (o : Option Entry) → IsSomeAnd o (λ e. FitsBehindLast old e × IsNotMoved tells e old new) → AreSoundEntries new = elim [
       | None ↦ λ h. absurd h
       | Some e ↦ λ h. record {
         sized = ap (list_all is_sound_entry) h.1.entries ∙ sound.sized;
@@ -185,7 +185,7 @@ sound-moved tells move.Fault old new ordered sound h =
     go (last_of_memory old.entries) h
 sound-moved tells (move.Moved number start) old new ordered sound h =
     let go : (o : Option Entry) → last_of_memory old.entries ≡ o
-    → IsSomeAnd o (λ e. HasRoom old e × (number ≡ e.number) × (start ≡ old.spill.next) × IsMoved tells e old new) → AreSoundEntries new = elim [
+    → IsSomeAnd o (λ e. FitsBehindLast old e × (number ≡ e.number) × (start ≡ old.spill.next) × IsMoved tells e old new) → AreSoundEntries new = elim [
       | None ↦ λ is h. absurd h
       | Some e ↦ λ is h. sound-moved_one tells e old new is ordered sound h.3
     ] in

@@ -23,8 +23,8 @@ abbrev pub next_extent : PendingState → Entry → Span
 next_extent s e = next_span (region_of s.spill) e.count
 
 -- they fit behind the last extent that was placed
-abbrev pub HasRoom : PendingState → Entry → Type 0
-HasRoom s e = s.spill.next + e.count ≤ s.spill.size
+abbrev pub FitsBehindLast : PendingState → Entry → Type 0
+FitsBehindLast s e = s.spill.next + e.count ≤ s.spill.size
 
 -- The bytes of an entry went to the device: nothing else changed.
 pub record IsMoved (tells : Type 0) (e : Entry) (old new : PendingState) : Type 0 where
@@ -57,7 +57,7 @@ OfLast s P = IsSomeAnd (last_of_memory s.entries) P
 abbrev pub MovesLast : Type 0 → SpillMove → PendingState → PendingState → Type 0
 MovesLast tells move.Nothing old new = IsNone (last_of_memory old.entries) × (new ≡ old)
 MovesLast tells move.NoRoom old new = OfLast old (λ e. old.spill.size < old.spill.next + e.count) × (new ≡ old)
-MovesLast tells move.Memory old new = OfLast old (HasRoom old) × (new ≡ old)
-MovesLast tells move.Fault old new = OfLast old (λ e. HasRoom old e × IsNotMoved tells e old new)
+MovesLast tells move.Memory old new = OfLast old (FitsBehindLast old) × (new ≡ old)
+MovesLast tells move.Fault old new = OfLast old (λ e. FitsBehindLast old e × IsNotMoved tells e old new)
 MovesLast tells (move.Moved number start) old new =
-    OfLast old (λ e. HasRoom old e × (number ≡ e.number) × (start ≡ old.spill.next) × IsMoved tells e old new)
+    OfLast old (λ e. FitsBehindLast old e × (number ≡ e.number) × (start ≡ old.spill.next) × IsMoved tells e old new)
