@@ -5,4 +5,5 @@ pub mod PartRequests
 pub mod PartClosed
 pub mod PartCreation
 pub mod PartTurns
+pub mod PartTicks
 pub mod Results

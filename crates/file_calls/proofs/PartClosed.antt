@@ -6,12 +6,12 @@ use Rattle.gw_outside.specs.Causes.{Carries}
 use Rattle.gw_outside.specs.Tally.{joined_tally}
 use Rattle.gw_outside.specs.Writing.{AppendsPrefix}
 use Rattle.gw_model.specs.Ahead.{Outcomes, Outcome, Done, Failed, NoMemory, CallResult, Good, Bad, next_call, is_refused, outcome_of}
-use Rattle.gw_model.specs.File.{Answer, Body, SystemErr, NotWritten, NotGiven, Gave, Committed, opened_file}
-use Rattle.gw_model.specs.Admission.{WriteRequest, ReadRequest, write_step}
+use Rattle.gw_model.specs.File.{Answer, Body, SystemErr, NotWritten, NotGiven, Gave, opened_file}
+use Rattle.gw_model.specs.Admission.{WriteRequest, limit_of, write_step}
 use Rattle.gw_model.specs.Statuses.{io}
 use Rattle.gw_model.specs.Sides.{SideStep, opened_side}
 use Rattle.gw_model.specs.Views.{TraceState}
-use Rattle.gw_config.specs.Settings.{Settings}
+use Rattle.file_calls.specs.Terms.{Terms, closed_commit_body, opening_hull}
 use Rattle.tickets.specs.Desk.{DeskState, TicketId}
 use Rattle.append_store.specs.State.{bytes_of}
 use Rattle.writeback.specs.State.{FileSeen, fresh_writer}
@@ -172,7 +172,7 @@ module _ (tells : Type 0) (mid : PartState) (s s' : Store) (noted' : TraceState)
   unwritten new e is = wanting_step tells (going q) (first q) (NotWritten io) mid s s' noted' closed goes bad want new e is
 
   -- the file was opened, and the request was answered or is held
-  pub opening_step : (c d : CellState) (r : WriteReq) (told : SideStep) (v : Verdict) (file : ℕ) → IsOpened tells mid.settings.limits file c s s' mid.noted noted' → q ≡ admit.write_request r → is_refusal v ≡ false → CellTells v r.ticket c told d → cell.CellWrites v c r d
+  pub opening_step : (c d : CellState) (r : WriteReq) (told : SideStep) (v : Verdict) (file : ℕ) → IsOpened tells mid.terms.settings.limits (opening_hull mid.terms.lost) mid.terms.moment file c s s' mid.noted noted' → q ≡ admit.write_request r → is_refusal v ≡ false → CellTells v r.ticket c told d → cell.CellWrites v c r d
       → StepsFrom tells (IsFrom mid.noted) (request_result (going q)) (scene mid s) (scene (part_with_verdict v (with_cell d (noting noted' mid))) s') (send_result mid.desk (verdict_answers v)).text false
   opening_step c d r told v file o is e t w =
       let same = told_file v r.ticket c told d t in
@@ -187,41 +187,42 @@ module _ (tells : Type 0) (mid : PartState) (s s' : Store) (noted' : TraceState)
       let u = ahead_at mid.noted later in
       let whole : c.file.content ≡ x.body = o.content told ∙ sym at.1 in
       let long : length c.file.content ≡ length x.body = ap length whole in
-      let stands : StandsFor c (opened_file x.body None 0)
-      = open_law c x.body None 0 (o.base ∙ long) (o.side ∙ ap (λ k. opened_side k None 0) long) (o.writer ∙ ap fresh_writer long) whole in
-      let m = w (opened_file x.body None 0) u stands (not_refused mid.noted later fine ∙ sym e) in
-      let limits = o.limits_are ∙ ap (λ (k : Settings). k.limits) (sym h.settings) in
-      let m' = subst (λ l. CellFollows v u (write_step l (opened_file x.body None 0) (admit.write_request r) u) d) limits m in
-      let f = of_follows v x u (write_step x.settings.limits (opened_file x.body None 0) (admit.write_request r) u) d m' e in (
+      let stands : StandsFor c (opened_file x.body (opening_hull x.terms.lost) x.terms.moment)
+      = open_law c x.body (opening_hull x.terms.lost) x.terms.moment (o.base ∙ long)
+      (o.side ∙ ap (λ k. opened_side k (opening_hull mid.terms.lost) mid.terms.moment) long ∙ ap (λ (y : Terms). opened_side (length x.body) (opening_hull y.lost) y.moment) (sym h.terms)) (o.writer ∙ ap fresh_writer long) whole in
+      let m = w (opened_file x.body (opening_hull x.terms.lost) x.terms.moment) u stands (not_refused mid.noted later fine ∙ sym e) in
+      let limits = o.limits_are ∙ ap (λ (k : Terms). k.settings.limits) (sym h.terms) in
+      let m' = subst (λ l. CellFollows v u (write_step l (opened_file x.body (opening_hull x.terms.lost) x.terms.moment) (admit.write_request r) u) d) limits m in
+      let f = of_follows v x u (write_step x.terms.settings.limits (opened_file x.body (opening_hull x.terms.lost) x.terms.moment) (admit.write_request r) u) d m' e in (
         f.0,
         f.1,
         f.2,
         f.3,
         goes x (ahead_at mid.noted (Done ∷ later)) at.0 (ap (λ (k : DeskState). k.last) h.desk) ∙ ap (λ b. first_write_result Good b x q u) (not_refused mid.noted later fine)
-            ∙ ap (λ y. file_step_result x (write_step x.settings.limits (opened_file x.body None 0) y u)) is ∙ f.4,
+            ∙ ap (λ y. file_step_result x (write_step x.terms.settings.limits (opened_file x.body (opening_hull x.terms.lost) x.terms.moment) y u)) is ∙ f.4,
       )))
 
 -- READ
 
-abbrev pub stored : ReadRequest → After
-stored q called refusal w t = stored_read_result called refusal w q t
+abbrev pub stored : ReadCall → ℕ → After
+stored call ticket called refusal w t = stored_read_result called refusal w (call_read_request call ticket w.terms.moment) t
 
 module _ (tells : Type 0) (mid : PartState) (s s' : Store) (noted' : TraceState) (call : ReadCall) (closed : mid.opened ≡ None) where
-  seeks : (w : Part) (t : Outcomes) → w.opened ≡ None → w.desk.last ≡ mid.desk.last → read_action call w t ≡ calling (stored (call_read_request call mid.desk.last)) w t
-  seeks w t shut last = ap (λ o. read_act_result o w (call_read_request call w.desk.last) t) shut ∙ ap (λ k. calling (stored (call_read_request call k)) w t) last
+  seeks : (w : Part) (t : Outcomes) → w.opened ≡ None → w.desk.last ≡ mid.desk.last → read_action call w t ≡ calling (stored call mid.desk.last) w t
+  seeks w t shut last = ap (λ o. read_act_result o w (call_read_request call w.desk.last w.terms.moment) t) shut ∙ ap (λ k. calling (stored call k) w t) last
 
   pub unread : FailsClosed tells failure.Store s s' mid.noted noted'
       → StepsFrom tells (IsFrom mid.noted) (request_result (read_action call)) (scene mid s) (scene (part_with_sent (reply mid.desk.last (NotGiven io)) (noting noted' mid)) s') (send_result mid.desk (reply mid.desk.last (NotGiven io))).text false
-  unread e = failed_step tells (read_action call) (stored (call_read_request call mid.desk.last)) (NotGiven io) mid s s' noted' closed seeks (λ w t b last. refl) (λ w t last. refl) e
+  unread e = failed_step tells (read_action call) (stored call mid.desk.last) (NotGiven io) mid s s' noted' closed seeks (λ w t b last. refl) (λ w t last. refl) e
 
   pub unseen : (new : PartState) → FailsClosed tells failure.Memory s s' mid.noted noted' → new ≡ part_with_refusal mid.desk.last (noting noted' mid)
       → StepsFrom tells (IsFrom mid.noted) (request_result (read_action call)) (scene mid s) (scene new s') (send_result mid.desk (reply mid.desk.last SystemErr)).text false
-  unseen new e is = wanting_step tells (read_action call) (stored (call_read_request call mid.desk.last)) (NotGiven io) mid s s' noted' closed seeks (λ w t b last. refl) (λ w t last. refl) new e is
+  unseen new e is = wanting_step tells (read_action call) (stored call mid.desk.last) (NotGiven io) mid s s' noted' closed seeks (λ w t b last. refl) (λ w t last. refl) new e is
 
   -- the part that the body has
   pub part_step : (p : StoredRange) → IsStoredRange tells p call.offset (min call.count 1048576) s s' mid.noted noted' → (tells → bytes_of s'.body ≡ bytes_of s.body)
       → StepsFrom tells (IsFrom mid.noted) (request_result (read_action call)) (scene mid s) (scene (part_with_sent (reply mid.desk.last (Gave p.bytes.items p.eof)) (noting noted' mid)) s') (send_result mid.desk (reply mid.desk.last (Gave p.bytes.items p.eof))).text false
-  part_step p e same = stored_read tells (read_action call) (stored (call_read_request call mid.desk.last)) (NotGiven io) mid s s' noted' closed seeks (λ w t b last. refl) (λ w t last. refl) (Gave p.bytes.items p.eof)
+  part_step p e same = stored_read tells (read_action call) (stored call mid.desk.last) (NotGiven io) mid s s' noted' closed seeks (λ w t b last. refl) (λ w t last. refl) (Gave p.bytes.items p.eof)
       (λ told w t body last.
       let has : stored_range call.offset (min call.count 1048576) w.body ≡ Gave p.bytes.items p.eof
       = ap (stored_range call.offset (min call.count 1048576)) body ∙ ap (λ xs. Gave xs (nat_le (length (bytes_of s.body)) (call.offset + min call.count 1048576))) (sym (e.bytes_are told)) ∙ ap (Gave p.bytes.items) (sym (e.eof_is told)) in
@@ -231,9 +232,12 @@ module _ (tells : Type 0) (mid : PartState) (s s' : Store) (noted' : TraceState)
 -- COMMIT
 
 module _ (tells : Type 0) (conn notes : ℕ) (ticket : TicketId) (old mid : PartState) (s : Store) (call : CommitCall) (closed : mid.opened ≡ None) (a : IsAsked conn call.xid notes ticket old mid) where
-  done : StepsFrom tells (IsFrom mid.noted) (request_result (commit_action call)) (scene mid s) (scene (part_with_sent (reply mid.desk.last Committed) mid) s) (send_result mid.desk (reply mid.desk.last Committed)).text false
+  abbrev body : Body
+  body = closed_commit_body mid.terms.lost (limit_of call.offset call.count)
+
+  done : StepsFrom tells (IsFrom mid.noted) (request_result (commit_action call)) (scene mid s) (scene (part_with_sent (reply mid.desk.last body) mid) s) (send_result mid.desk (reply mid.desk.last body)).text false
   done =
-      sent_step tells (commit_action call) (scene mid s) (scene (part_with_sent (reply mid.desk.last Committed) mid) s) (reply mid.desk.last Committed) []
+      sent_step tells (commit_action call) (scene mid s) (scene (part_with_sent (reply mid.desk.last body) mid) s) (reply mid.desk.last body) []
       refl refl refl (sym (append-nil mid.noted.outcomes)) (λ later fine. from_after mid.noted later fine) (λ told. refl) (counted_none (counts_at s.counts mid.opened)) refl
       (λ told w h later fine.
       let t = ahead_at mid.noted later in
@@ -243,14 +247,16 @@ module _ (tells : Type 0) (conn notes : ℕ) (ticket : TicketId) (old mid : Part
         h.opened,
         refl,
         refl,
-        goes_on (commit_action call) mid.noted w later fine ∙ ap (λ o. commit_act_result o w (call_commit_request call w.desk.last) t) shut.0 ∙ ap (λ k. answer_result w k Committed t) last,
+        goes_on (commit_action call) mid.noted w later fine ∙ ap (λ o. commit_act_result o w (call_commit_request call w.desk.last w.terms.moment) t) shut.0
+            ∙ ap (λ k. answer_result w k (closed_commit_body w.terms.lost (limit_of call.offset call.count)) t) last
+            ∙ ap (λ (k : Terms). answer_result w mid.desk.last (closed_commit_body k.lost (limit_of call.offset call.count)) t) h.terms,
       ))
 
-  pub commits_closed : (new : PartState) (answers : List Answer) → answers ≡ reply ticket.number Committed → new ≡ part_with_sent answers mid → IsStep tells (CommitFile conn call) (scene old s) (scene new s) (send_result mid.desk answers).text false
+  pub commits_closed : (new : PartState) (answers : List Answer) → answers ≡ reply ticket.number body → new ≡ part_with_sent answers mid → IsStep tells (CommitFile conn call) (scene old s) (scene new s) (send_result mid.desk answers).text false
   commits_closed new answers is kept =
-      let same : answers ≡ reply mid.desk.last Committed = is ∙ ap (λ k. reply k Committed) (last_ticket conn call.xid notes ticket old mid a) in
-      rw (kept, same) (commits tells conn call (scene old s) (scene (part_with_sent (reply mid.desk.last Committed) mid) s) (send_result mid.desk (reply mid.desk.last Committed)).text
-      (asked_step tells conn call.xid notes ticket old mid s a (commit_action call) (scene (part_with_sent (reply mid.desk.last Committed) mid) s) (send_result mid.desk (reply mid.desk.last Committed)).text done))
+      let same : answers ≡ reply mid.desk.last body = is ∙ ap (λ k. reply k body) (last_ticket conn call.xid notes ticket old mid a) in
+      rw (kept, same) (commits tells conn call (scene old s) (scene (part_with_sent (reply mid.desk.last body) mid) s) (send_result mid.desk (reply mid.desk.last body)).text
+      (asked_step tells conn call.xid notes ticket old mid s a (commit_action call) (scene (part_with_sent (reply mid.desk.last body) mid) s) (send_result mid.desk (reply mid.desk.last body)).text done))
 
 -- the same, by the answer that the program sent
 pub of_answer : (tells : Type 0) (go : Action) (mid m new : PartState) (s s' : Store) (a : Sendable) (k : ℕ) (b : Body) → a.ticket.number ≡ k → body_of a.body ≡ b → new ≡ part_with_sent (answer_of a ∷ []) m

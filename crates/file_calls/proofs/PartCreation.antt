@@ -37,7 +37,7 @@ module _ (tells : Type 0) (old : PartState) (s s' : Store) (room : TraceState) (
         notes = refl;
         speaks = speaks_none old.desk;
         passed = record { after = λ later fine. tt; puts = λ told. body told ∙ sym (append-nil (body_at s.body old.opened)); counts = counted (Done ∷ []) counts };
-        next = λ told w h later fine. record { part = record { opened = subst (λ x. IsOpen old.opened x w) (sym (body told)) h.opened; desk = h.desk; settings = h.settings }; text_is = refl; stop = refl; ahead = refl };
+        next = λ told w h later fine. record { part = record { opened = subst (λ x. IsOpen old.opened x w) (sym (body told)) h.opened; desk = h.desk; terms = h.terms }; text_is = refl; stop = refl; ahead = refl };
       })
 
   pub make_failed : IsCounted (Failed 0 ∷ []) s.counts s'.counts → IsStep tells CreateFile (scene old s) (scene (record old { noted = with_note (Failed 0) room }) s') [] true
@@ -49,7 +49,7 @@ module _ (tells : Type 0) (old : PartState) (s s' : Store) (room : TraceState) (
         notes = refl;
         speaks = speaks_none old.desk;
         passed = record { after = λ later fine. tt; puts = λ told. body told ∙ sym (append-nil (body_at s.body old.opened)); counts = counted (Failed 0 ∷ []) counts };
-        next = λ told w h later fine. record { part = record { opened = subst (λ x. IsOpen old.opened x w) (sym (body told)) h.opened; desk = h.desk; settings = h.settings }; text_is = refl; stop = refl; ahead = refl };
+        next = λ told w h later fine. record { part = record { opened = subst (λ x. IsOpen old.opened x w) (sym (body told)) h.opened; desk = h.desk; terms = h.terms }; text_is = refl; stop = refl; ahead = refl };
       })
 
   pub make_cut : IsCounted [] s.counts s'.counts → IsActCut tells CreateFile (scene old s) (scene (record old { noted = room }) s')

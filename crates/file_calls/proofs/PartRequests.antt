@@ -6,7 +6,7 @@ use Rattle.gw_model.specs.Ahead.{Outcomes, Outcome, Done, Failed, Listed, NoMemo
 use Rattle.gw_model.specs.File.{Answer, SystemErr, File, Step}
 use Rattle.gw_model.specs.Views.{TraceState, next_event, next_request}
 use Rattle.gw_model.specs.declared.limits.Limits.{Limits}
-use Rattle.gw_config.specs.Settings.{Settings}
+use Rattle.file_calls.specs.Terms.{Terms}
 use Rattle.tickets.specs.Desk.{TicketId, DeskState, with_issued, with_answered, with_cancelled, waiting_ticket}
 use Rattle.file_cell.specs.State.{CellState}
 use Rattle.file_cell.specs.Files as cell
@@ -19,7 +19,7 @@ use Rattle.admit.specs.Calls.{verdict_answers, ahead_after, is_refusal}
 use Rattle.admit.specs.declared.request.Verdict.{Verdict}
 use Rattle.admit.specs.declared.request.Verdict.TheVariants as verdict
 use Rattle.gw_model.specs.Admission.{WriteRequest, ReadRequest, CommitRequest, limit_of, write_step, read_step, commit_step}
-use Rattle.file_calls.specs.Acts.{Act, IsRequest, CreateFile, BeginEvent, Reply, WriteFile, ReadFile, CommitFile, CloseConnection, HangUp, TurnFile, PumpFile, SyncFile}
+use Rattle.file_calls.specs.Acts.{Act, IsRequest, CreateFile, BeginEvent, Reply, WriteFile, ReadFile, CommitFile, CloseConnection, HangUp, TurnFile, PumpFile, SyncFile, BeginTick, TickFile}
 use Rattle.file_calls.specs.Replies.{closed_line}
 use Rattle.file_calls.specs.declared.call.CommitCall.{CommitCall}
 use Rattle.file_calls.specs.declared.call.ReadCall.{ReadCall}
@@ -96,10 +96,10 @@ body_is s w h = go s.kept.opened h.opened
     go (Some c) (f, opened, stands, is) = rw opened is
 
 -- answers are sent from a part
-pub sending : (v : Part) (new : Scene) (d : DeskState) (answers : List Answer) (later : List Outcome) → IsOpen new.kept.opened new.body v → v.desk ≡ d → new.kept.desk ≡ (send_result d answers).desk → v.settings ≡ new.kept.settings
+pub sending : (v : Part) (new : Scene) (d : DeskState) (answers : List Answer) (later : List Outcome) → IsOpen new.kept.opened new.body v → v.desk ≡ d → new.kept.desk ≡ (send_result d answers).desk → v.terms ≡ new.kept.terms
     → LeavesScene new (send_result d answers).text false later (answers_result v answers (ahead_at new.kept.noted later))
-sending v new d answers later opened same desk settings = record {
-  part = record { opened = open_with_desk new.kept.opened new.body v (send_result v.desk answers).desk opened; desk = ap (λ x. (send_result x answers).desk) same ∙ sym desk; settings = settings };
+sending v new d answers later opened same desk terms = record {
+  part = record { opened = open_with_desk new.kept.opened new.body v (send_result v.desk answers).desk opened; desk = ap (λ x. (send_result x answers).desk) same ∙ sym desk; terms = terms };
   text_is = ap (λ x. (send_result x answers).text) same;
   stop = refl;
   ahead = refl;
@@ -112,7 +112,7 @@ cut_still tells act old new notes same counts = inl (record { notes = notes; cou
 -- a request that has its number and its ticket
 module _ (tells : Type 0) (conn xid notes : ℕ) (ticket : TicketId) (old mid : PartState) (s : Store) (a : IsAsked conn xid notes ticket old mid) where
   asked_part : (w : Part) → IsPart (scene old s) w → IsPart (scene mid s) (with_request conn xid w)
-  asked_part w h = record { opened = rw a.opened (open_with_desk old.opened (body_at s.body old.opened) w (with_issued conn xid w.desk) h.opened); desk = ap (with_issued conn xid) h.desk ∙ sym a.desk; settings = h.settings ∙ sym a.settings }
+  asked_part w h = record { opened = rw a.opened (open_with_desk old.opened (body_at s.body old.opened) w (with_issued conn xid w.desk) h.opened); desk = ap (with_issued conn xid) h.desk ∙ sym a.desk; terms = h.terms ∙ sym a.terms }
 
   pub asked_step : (go : Action) (new : Scene) (text : List ℕ) → StepsFrom tells (IsFrom mid.noted) (request_result go) (scene mid s) new text false → Steps tells (new_request_result conn xid go) (scene old s) new text false
   asked_step go new text t =
@@ -133,13 +133,13 @@ module _ (tells : Type 0) (conn xid notes : ℕ) (ticket : TicketId) (old mid : 
 -- What a request that has its ticket does, at a scene whose event and request stand.
 module _ (tells : Type 0) (go : Action) (mid new : Scene) (answers : List Answer) (outcomes : List Outcome) where
   -- Its answers are sent, with no byte put.
-  pub sent_step : (event : new.kept.noted.event ≡ mid.kept.noted.event) (request : new.kept.noted.request ≡ mid.kept.noted.request) (still : new.kept.settings ≡ mid.kept.settings)
+  pub sent_step : (event : new.kept.noted.event ≡ mid.kept.noted.event) (request : new.kept.noted.request ≡ mid.kept.noted.request) (still : new.kept.terms ≡ mid.kept.terms)
       → Notes mid new outcomes
       → ((later : List Outcome) → IsAfter new.kept.noted later → IsFrom mid.kept.noted (outcomes ++ later))
       → (tells → new.body ≡ mid.body) → IsCounted outcomes mid.counts new.counts
       → new.kept.desk ≡ (send_result mid.kept.desk answers).desk
       → (tells → (w : Part) → IsPart mid w → (later : List Outcome) → IsAfter new.kept.noted later
-      → (v : Part) × IsOpen new.kept.opened new.body v × (v.desk ≡ w.desk) × (v.settings ≡ w.settings) × (request_result go w (ahead_at mid.kept.noted (outcomes ++ later)) ≡ answers_result v answers (ahead_at mid.kept.noted later)))
+      → (v : Part) × IsOpen new.kept.opened new.body v × (v.desk ≡ w.desk) × (v.terms ≡ w.terms) × (request_result go w (ahead_at mid.kept.noted (outcomes ++ later)) ≡ answers_result v answers (ahead_at mid.kept.noted later)))
       → StepsFrom tells (IsFrom mid.kept.noted) (request_result go) mid new (send_result mid.kept.desk answers).text false
   sent_step event request still notes from same counts desk comes = record {
     outcomes = outcomes;
@@ -149,7 +149,7 @@ module _ (tells : Type 0) (go : Action) (mid new : Scene) (answers : List Answer
     passed = record { after = from; puts = λ told. same told ∙ sym (append-nil mid.body); counts = counts };
     next = λ told w h later fine.
         let c = comes told w h later fine in
-        let g = sending c.0 new mid.kept.desk answers later c.1 (c.2 ∙ h.desk) desk (c.3 ∙ h.settings ∙ sym still) in
+        let g = sending c.0 new mid.kept.desk answers later c.1 (c.2 ∙ h.desk) desk (c.3 ∙ h.terms ∙ sym still) in
         let ahead : ahead_at mid.kept.noted later ≡ ahead_at new.kept.noted later
         = ap (λ e. let t : Outcomes = record { left = later; event = e; request = mid.kept.noted.request; mismatched = false } in t) (sym event)
         ∙ ap (λ r. let t : Outcomes = record { left = later; event = new.kept.noted.event; request = r; mismatched = false } in t) (sym request) in
@@ -202,8 +202,8 @@ abbrev pub Means : (File → Outcomes → Step) → Verdict → CellState → Ce
 Means act v c d = (f : File) (t : Outcomes) → StandsFor c f → is_refused t ≡ is_refusal v → CellFollows v t (act f t) d
 
 -- the request goes to the open file
-abbrev pub GoesTo : Action → (File → Outcomes → Step) → ℕ → Settings → Type 0
-GoesTo go act ticket settings = (w : Part) (f : File) (t : Outcomes) → w.opened ≡ Some f → w.desk.last ≡ ticket → w.settings ≡ settings → go w t ≡ file_step_result w (act f t)
+abbrev pub GoesTo : Action → (File → Outcomes → Step) → ℕ → Terms → Type 0
+GoesTo go act ticket terms = (w : Part) (f : File) (t : Outcomes) → w.opened ≡ Some f → w.desk.last ≡ ticket → w.terms ≡ terms → go w t ≡ file_step_result w (act f t)
 
 pub ahead_stays : (v : Verdict) (t : Outcomes) → is_refusal v ≡ false → ahead_after v t ≡ t
 ahead_stays (verdict.Reply a) t e = refl
@@ -213,7 +213,7 @@ ahead_stays (verdict.NoMemory ticket) t e = absurd (cc e)
 
 -- an open file, from what is told of a step of it
 pub of_follows : (v : Verdict) (w : Part) (t : Outcomes) (step : Step) (d : CellState) → CellFollows v t step d → is_refusal v ≡ false
-    → (u : Part) × IsOpen (Some d) d.file.content u × (u.desk ≡ w.desk) × (u.settings ≡ w.settings) × (file_step_result w step ≡ answers_result u (verdict_answers v) t)
+    → (u : Part) × IsOpen (Some d) d.file.content u × (u.desk ≡ w.desk) × (u.terms ≡ w.terms) × (file_step_result w step ≡ answers_result u (verdict_answers v) t)
 of_follows v w t step d m e = (
   record w { opened = Some step.file },
   (step.file, refl, m.stands, sym m.stands.content),
@@ -222,7 +222,7 @@ of_follows v w t step d m e = (
   ap (λ a. answers_result (record w { opened = Some step.file }) a step.ahead) m.answers ∙ ap (λ x. answers_result (record w { opened = Some step.file }) (verdict_answers v) x) (m.ahead ∙ ahead_stays v t e),
 )
 
-module _ (tells : Type 0) (go : Action) (act : File → Outcomes → Step) (mid : PartState) (c d : CellState) (s : Store) (is_open : mid.opened ≡ Some c) (goes : GoesTo go act mid.desk.last mid.settings) (same : d.file ≡ c.file) where
+module _ (tells : Type 0) (go : Action) (act : File → Outcomes → Step) (mid : PartState) (c d : CellState) (s : Store) (is_open : mid.opened ≡ Some c) (goes : GoesTo go act mid.desk.last mid.terms) (same : d.file ≡ c.file) where
   same_body : body_at s.body (Some d) ≡ body_at s.body mid.opened
   same_body = ap (λ x. x.content) same ∙ sym (ap (body_at s.body) is_open)
 
@@ -239,7 +239,7 @@ module _ (tells : Type 0) (go : Action) (act : File → Outcomes → Step) (mid 
       let o = subst (λ x. IsOpen x (body_at s.body x) w) is_open h.opened in
       let m = means o.0 t o.2 (not_refused mid.noted later fine ∙ sym e) in
       let u = of_follows v w t (act o.0 t) d m e in
-      (u.0, u.1, u.2, u.3, goes_on go mid.noted w later fine ∙ goes w o.0 t o.1 (ap (λ x. x.last) h.desk) h.settings ∙ u.4)))
+      (u.0, u.1, u.2, u.3, goes_on go mid.noted w later fine ∙ goes w o.0 t o.1 (ap (λ x. x.last) h.desk) h.terms ∙ u.4)))
 
   -- a verdict on a request whose ticket is the last
   pub open_step : (v : Verdict) (asker : TicketId) → asker.number ≡ mid.desk.last → IsOf v asker c d → Means act v c d
@@ -312,20 +312,20 @@ unfolding next_part
 commits tells conn call old new text s = s
 
 -- a request of the open file goes to it
-pub goes_write : (call : WriteCall) (q : WriteRequest) (ticket : ℕ) (settings : Settings) → q ≡ call_write_request call ticket → GoesTo (write_action call) (λ f t. write_step settings.limits f q t) ticket settings
-goes_write call q ticket settings is w f t opened last same =
-    ap (λ o. write_act_result o w (call_write_request call w.desk.last) t) opened ∙ ap (λ x. file_step_result w (write_step w.settings.limits f x t)) (ap (call_write_request call) last ∙ sym is)
-    ∙ ap (λ (x : Settings). file_step_result w (write_step x.limits f q t)) same
+pub goes_write : (call : WriteCall) (q : WriteRequest) (ticket : ℕ) (terms : Terms) → q ≡ call_write_request call ticket terms.moment → GoesTo (write_action call) (λ f t. write_step terms.settings.limits f q t) ticket terms
+goes_write call q ticket terms is w f t opened last same =
+    ap (λ o. write_act_result o w (call_write_request call w.desk.last w.terms.moment) t) opened ∙ ap (λ x. file_step_result w (write_step w.terms.settings.limits f x t)) (ap (λ n. call_write_request call n w.terms.moment) last ∙ ap (λ (x : Terms). call_write_request call ticket x.moment) same ∙ sym is)
+    ∙ ap (λ (x : Terms). file_step_result w (write_step x.settings.limits f q t)) same
 
-pub goes_read : (call : ReadCall) (q : ReadRequest) (ticket : ℕ) (settings : Settings) → q ≡ call_read_request call ticket → GoesTo (read_action call) (λ f t. read_step settings.limits f q t) ticket settings
-goes_read call q ticket settings is w f t opened last same =
-    ap (λ o. read_act_result o w (call_read_request call w.desk.last) t) opened ∙ ap (λ x. file_step_result w (read_step w.settings.limits f x t)) (ap (call_read_request call) last ∙ sym is)
-    ∙ ap (λ (x : Settings). file_step_result w (read_step x.limits f q t)) same
+pub goes_read : (call : ReadCall) (q : ReadRequest) (ticket : ℕ) (terms : Terms) → q ≡ call_read_request call ticket terms.moment → GoesTo (read_action call) (λ f t. read_step terms.settings.limits f q t) ticket terms
+goes_read call q ticket terms is w f t opened last same =
+    ap (λ o. read_act_result o w (call_read_request call w.desk.last w.terms.moment) t) opened ∙ ap (λ x. file_step_result w (read_step w.terms.settings.limits f x t)) (ap (λ n. call_read_request call n w.terms.moment) last ∙ ap (λ (x : Terms). call_read_request call ticket x.moment) same ∙ sym is)
+    ∙ ap (λ (x : Terms). file_step_result w (read_step x.settings.limits f q t)) same
 
-pub goes_commit : (call : CommitCall) (q : CommitRequest) (ticket : ℕ) (settings : Settings) → q ≡ call_commit_request call ticket → GoesTo (commit_action call) (λ f t. commit_step settings.limits f q t) ticket settings
-goes_commit call q ticket settings is w f t opened last same =
-    ap (λ o. commit_act_result o w (call_commit_request call w.desk.last) t) opened ∙ ap (λ x. file_step_result w (commit_step w.settings.limits f x t)) (ap (call_commit_request call) last ∙ sym is)
-    ∙ ap (λ (x : Settings). file_step_result w (commit_step x.limits f q t)) same
+pub goes_commit : (call : CommitCall) (q : CommitRequest) (ticket : ℕ) (terms : Terms) → q ≡ call_commit_request call ticket terms.moment → GoesTo (commit_action call) (λ f t. commit_step terms.settings.limits f q t) ticket terms
+goes_commit call q ticket terms is w f t opened last same =
+    ap (λ o. commit_act_result o w (call_commit_request call w.desk.last w.terms.moment) t) opened ∙ ap (λ x. file_step_result w (commit_step w.terms.settings.limits f x t)) (ap (λ n. call_commit_request call n w.terms.moment) last ∙ ap (λ (x : Terms). call_commit_request call ticket x.moment) same ∙ sym is)
+    ∙ ap (λ (x : Terms). file_step_result w (commit_step x.settings.limits f q t)) same
 
 -- one that goes the same way
 pub same_way : (tells : Type 0) (go go' : Action) (mid new : Scene) (text : List ℕ) → ((w : Part) (t : Outcomes) → IsPart mid w → go w t ≡ go' w t)
@@ -353,51 +353,51 @@ cut_room tells act old new s is =
 pub last_ticket : (conn xid notes : ℕ) (ticket : TicketId) (old mid : PartState) → IsAsked conn xid notes ticket old mid → ticket.number ≡ mid.desk.last
 last_ticket conn xid notes ticket old mid a = ap (λ (x : TicketId). x.number) a.ticket_is ∙ ap (λ (d : DeskState). d.last) (sym a.desk)
 
-module _ (tells : Type 0) (conn notes : ℕ) (ticket : TicketId) (old mid : PartState) (s : Store) (c d : CellState) (v : Verdict) (told : SideStep) (is_open : mid.opened ≡ Some c) (limits : c.limits ≡ mid.settings.limits) where
+module _ (tells : Type 0) (conn notes : ℕ) (ticket : TicketId) (old mid : PartState) (s : Store) (c d : CellState) (v : Verdict) (told : SideStep) (is_open : mid.opened ≡ Some c) (limits : c.limits ≡ mid.terms.settings.limits) where
   -- a WRITE of the open file
-  pub write_acts : (call : WriteCall) (r : WriteReq) → IsAsked conn call.xid notes ticket old mid → r ≡ record { offset = call.offset; stable = call.stable; bytes = call.content; ticket = ticket; moment = 0 } → CellTells v r.ticket c told d → cell.CellWrites v c r d
+  pub write_acts : (call : WriteCall) (r : WriteReq) → IsAsked conn call.xid notes ticket old mid → r ≡ record { offset = call.offset; stable = call.stable; bytes = call.content; ticket = ticket; moment = mid.terms.moment } → CellTells v r.ticket c told d → cell.CellWrites v c r d
       → IsStep tells (WriteFile conn call) (scene old s) (scene (part_with_verdict v (with_cell d mid)) s) (send_result mid.desk (verdict_answers v)).text false
   write_acts call r a is t w =
       let last = ap (λ (x : WriteReq). x.ticket.number) is ∙ last_ticket conn call.xid notes ticket old mid a in
-      let q = ap admit.write_request is ∙ ap (λ x. call_write_request call x) (last_ticket conn call.xid notes ticket old mid a) in
+      let q = ap admit.write_request is ∙ ap (λ x. call_write_request call x mid.terms.moment) (last_ticket conn call.xid notes ticket old mid a) in
       writes tells conn call (scene old s) (scene (part_with_verdict v (with_cell d mid)) s) (send_result mid.desk (verdict_answers v)).text
       (asked_step tells conn call.xid notes ticket old mid s a (write_action call) (scene (part_with_verdict v (with_cell d mid)) s) (send_result mid.desk (verdict_answers v)).text
-      (open_step tells (write_action call) (λ f t. write_step mid.settings.limits f (admit.write_request r) t) mid c d s is_open (goes_write call (admit.write_request r) mid.desk.last mid.settings q) (told_file v r.ticket c told d t)
+      (open_step tells (write_action call) (λ f t. write_step mid.terms.settings.limits f (admit.write_request r) t) mid c d s is_open (goes_write call (admit.write_request r) mid.desk.last mid.terms q) (told_file v r.ticket c told d t)
       v r.ticket last (told_of_asker v r.ticket c told d t) (subst (λ x. (f : File) (t : Outcomes) → StandsFor c f → is_refused t ≡ is_refusal v → CellFollows v t (write_step x f (admit.write_request r) t) d) limits w)))
 
   -- a READ of it
-  pub read_acts : (call : ReadCall) (r : ReadReq) → IsAsked conn call.xid notes ticket old mid → r ≡ record { offset = call.offset; count = call.count; ticket = ticket; moment = 0 } → CellTells v r.ticket c told d → cell.CellFetches v c r d
+  pub read_acts : (call : ReadCall) (r : ReadReq) → IsAsked conn call.xid notes ticket old mid → r ≡ record { offset = call.offset; count = call.count; ticket = ticket; moment = mid.terms.moment } → CellTells v r.ticket c told d → cell.CellFetches v c r d
       → IsStep tells (ReadFile conn call) (scene old s) (scene (part_with_verdict v (with_cell d mid)) s) (send_result mid.desk (verdict_answers v)).text false
   read_acts call r a is t w =
       let last = ap (λ (x : ReadReq). x.ticket.number) is ∙ last_ticket conn call.xid notes ticket old mid a in
-      let q = ap admit.read_request is ∙ ap (λ x. call_read_request call x) (last_ticket conn call.xid notes ticket old mid a) in
+      let q = ap admit.read_request is ∙ ap (λ x. call_read_request call x mid.terms.moment) (last_ticket conn call.xid notes ticket old mid a) in
       reads tells conn call (scene old s) (scene (part_with_verdict v (with_cell d mid)) s) (send_result mid.desk (verdict_answers v)).text
       (asked_step tells conn call.xid notes ticket old mid s a (read_action call) (scene (part_with_verdict v (with_cell d mid)) s) (send_result mid.desk (verdict_answers v)).text
-      (open_step tells (read_action call) (λ f t. read_step mid.settings.limits f (admit.read_request r) t) mid c d s is_open (goes_read call (admit.read_request r) mid.desk.last mid.settings q) (told_file v r.ticket c told d t)
+      (open_step tells (read_action call) (λ f t. read_step mid.terms.settings.limits f (admit.read_request r) t) mid c d s is_open (goes_read call (admit.read_request r) mid.desk.last mid.terms q) (told_file v r.ticket c told d t)
       v r.ticket last (told_of_asker v r.ticket c told d t) (subst (λ x. (f : File) (t : Outcomes) → StandsFor c f → is_refused t ≡ is_refusal v → CellFollows v t (read_step x f (admit.read_request r) t) d) limits w)))
 
   -- a COMMIT of it
-  pub commit_acts : (call : CommitCall) (limit : ℕ) (r : CommitReq) → limit ≡ limit_of call.offset call.count → IsAsked conn call.xid notes ticket old mid → r ≡ record { limit = limit; ticket = ticket; moment = 0 } → CellTells v r.ticket c told d → cell.CellCommits v c r d
+  pub commit_acts : (call : CommitCall) (limit : ℕ) (r : CommitReq) → limit ≡ limit_of call.offset call.count → IsAsked conn call.xid notes ticket old mid → r ≡ record { limit = limit; ticket = ticket; moment = mid.terms.moment } → CellTells v r.ticket c told d → cell.CellCommits v c r d
       → IsStep tells (CommitFile conn call) (scene old s) (scene (part_with_verdict v (with_cell d mid)) s) (send_result mid.desk (verdict_answers v)).text false
   commit_acts call limit r limited a is t w =
       let last = ap (λ (x : CommitReq). x.ticket.number) is ∙ last_ticket conn call.xid notes ticket old mid a in
-      let q = ap admit.commit_request is ∙ ap (λ n. let x : CommitRequest = record { limit = n; ticket = ticket.number; moment = 0 } in x) limited ∙ ap (λ x. call_commit_request call x) (last_ticket conn call.xid notes ticket old mid a) in
+      let q = ap admit.commit_request is ∙ ap (λ n. let x : CommitRequest = record { limit = n; ticket = ticket.number; moment = mid.terms.moment } in x) limited ∙ ap (λ x. call_commit_request call x mid.terms.moment) (last_ticket conn call.xid notes ticket old mid a) in
       commits tells conn call (scene old s) (scene (part_with_verdict v (with_cell d mid)) s) (send_result mid.desk (verdict_answers v)).text
       (asked_step tells conn call.xid notes ticket old mid s a (commit_action call) (scene (part_with_verdict v (with_cell d mid)) s) (send_result mid.desk (verdict_answers v)).text
-      (open_step tells (commit_action call) (λ f t. commit_step mid.settings.limits f (admit.commit_request r) t) mid c d s is_open (goes_commit call (admit.commit_request r) mid.desk.last mid.settings q) (told_file v r.ticket c told d t)
+      (open_step tells (commit_action call) (λ f t. commit_step mid.terms.settings.limits f (admit.commit_request r) t) mid c d s is_open (goes_commit call (admit.commit_request r) mid.desk.last mid.terms q) (told_file v r.ticket c told d t)
       v r.ticket last (told_of_asker v r.ticket c told d t) (subst (λ x. (f : File) (t : Outcomes) → StandsFor c f → is_refused t ≡ is_refusal v → CellFollows v t (commit_step x f (admit.commit_request r) t) d) limits w)))
 
 -- what a request of the closed file comes to
 module _ (tells : Type 0) (conn notes : ℕ) (ticket : TicketId) (old mid : PartState) (s : Store) where
   -- a WRITE that opens the file
-  pub first_step : (call : WriteCall) (r : WriteReq) → IsAsked conn call.xid notes ticket old mid → r ≡ record { offset = call.offset; stable = call.stable; bytes = call.content; ticket = ticket; moment = 0 }
+  pub first_step : (call : WriteCall) (r : WriteReq) → IsAsked conn call.xid notes ticket old mid → r ≡ record { offset = call.offset; stable = call.stable; bytes = call.content; ticket = ticket; moment = mid.terms.moment }
       → (new : Scene) (text : List ℕ) → StepsFrom tells (IsFrom mid.noted) (request_result (λ w t. write_act_result w.opened w (admit.write_request r) t)) (scene mid s) new text false → IsStep tells (WriteFile conn call) (scene old s) new text false
   first_step call r a is new text t =
-      let q = ap admit.write_request is ∙ ap (λ x. call_write_request call x) (last_ticket conn call.xid notes ticket old mid a) in
+      let q = ap admit.write_request is ∙ ap (λ x. call_write_request call x mid.terms.moment) (last_ticket conn call.xid notes ticket old mid a) in
       writes tells conn call (scene old s) new text
       (asked_step tells conn call.xid notes ticket old mid s a (write_action call) new text
       (same_way tells (λ w u. write_act_result w.opened w (admit.write_request r) u) (write_action call) (scene mid s) new text
-      (λ w u h. ap (λ x. write_act_result w.opened w x u) (q ∙ ap (λ (d : DeskState). call_write_request call d.last) (sym h.desk))) t))
+      (λ w u h. ap (λ x. write_act_result w.opened w x u) (q ∙ ap (λ (d : DeskState). call_write_request call d.last mid.terms.moment) (sym h.desk) ∙ ap (λ (k : Terms). call_write_request call w.desk.last k.moment) (sym h.terms))) t))
 
   -- a READ of what is stored
   pub stored_step : (call : ReadCall) → IsAsked conn call.xid notes ticket old mid
@@ -422,7 +422,7 @@ module _ (tells : Type 0) (conn xid notes : ℕ) (ticket : TicketId) (old mid : 
     next = λ told w h later fine.
         let same : w.desk.last ≡ ticket.number = ap (λ (d : DeskState). d.last) h.desk ∙ sym last in
         subst (λ x. LeavesScene (scene after s) (text_to (waiting_ticket ticket.number mid.desk) reply) false later x) (sym (goes_on (reply_action reply) mid.noted w later fine)) (record {
-          part = record { opened = open_with_desk mid.opened (body_at s.body mid.opened) w (with_answered w.desk.last w.desk) h.opened; desk = ap (λ k. with_answered k w.desk) same ∙ ap (with_answered ticket.number) h.desk; settings = h.settings };
+          part = record { opened = open_with_desk mid.opened (body_at s.body mid.opened) w (with_answered w.desk.last w.desk) h.opened; desk = ap (λ k. with_answered k w.desk) same ∙ ap (with_answered ticket.number) h.desk; terms = h.terms };
           text_is = ap (λ k. text_to (waiting_ticket k w.desk) reply) same ∙ ap (λ (d : DeskState). text_to (waiting_ticket ticket.number d) reply) h.desk;
           stop = refl;
           ahead = refl;
@@ -457,6 +457,8 @@ refuses tells act conn xid notes ticket old mid new s a is kept = go act is
     go TurnFile none = absurd none
     go PumpFile none = absurd none
     go SyncFile none = absurd none
+    go (BeginTick milliseconds) none = absurd none
+    go (TickFile file) none = absurd none
 
 -- the end of a connection
 pub ends_step : (tells : Type 0) (conn : ℕ) (old new : PartState) (s : Store) → new ≡ record old { desk = with_cancelled conn old.desk } → IsStep tells (CloseConnection conn) (scene old s) (scene new s) (closed_line conn) false
@@ -468,7 +470,7 @@ ends_step tells conn old new s is = rw is (record {
   speaks = speaks_close conn old.desk;
   passed = record { after = λ later fine. fine; puts = λ told. sym (append-nil (body_at s.body old.opened)); counts = counted_none (counts_at s.counts old.opened) };
   next = λ told w h later fine. record {
-    part = record { opened = open_with_desk old.opened (body_at s.body old.opened) w (with_cancelled conn w.desk) h.opened; desk = ap (with_cancelled conn) h.desk; settings = h.settings };
+    part = record { opened = open_with_desk old.opened (body_at s.body old.opened) w (with_cancelled conn w.desk) h.opened; desk = ap (with_cancelled conn) h.desk; terms = h.terms };
     text_is = refl;
     stop = refl;
     ahead = refl;
@@ -489,7 +491,7 @@ hangs_step tells conn old new s few is = rw is (record {
     counts = counted_none (counts_at s.counts old.opened);
   };
   next = λ told w h later fine. record {
-    part = record { opened = open_with_desk old.opened (body_at s.body old.opened) w (with_cancelled conn w.desk) h.opened; desk = ap (with_cancelled conn) h.desk; settings = h.settings };
+    part = record { opened = open_with_desk old.opened (body_at s.body old.opened) w (with_cancelled conn w.desk) h.opened; desk = ap (with_cancelled conn) h.desk; terms = h.terms };
     text_is = refl;
     stop = refl;
     ahead = refl;

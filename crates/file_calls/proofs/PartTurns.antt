@@ -8,7 +8,7 @@ use Rattle.gw_model.specs.File.{Answer, File}
 use Rattle.gw_model.specs.Admission.{pump_step}
 use Rattle.gw_model.specs.Views.{TraceState, next_event}
 use Rattle.gw_model.specs.Writer.{turn_step, sync_step}
-use Rattle.gw_config.specs.Settings.{Settings}
+use Rattle.file_calls.specs.Terms.{Terms}
 use Rattle.tickets.specs.Desk.{DeskState, waiting_ticket}
 use Rattle.tickets.specs.declared.answer.Answer.{Answer as Sendable}
 use Rattle.tickets.specs.Answers.{answer_of}
@@ -57,7 +57,7 @@ noted_request true n = refl
 noted_request false n = refl
 
 -- the calls of a job
-counted_calls : {tells : Type 0} {put : List ℕ} (calls : List CallResult) (old new : FileSeen) → Leaves tells put calls old new → IsCounted (map outcome_of calls) (file_counts old) (file_counts new)
+pub counted_calls : {tells : Type 0} {put : List ℕ} (calls : List CallResult) (old new : FileSeen) → Leaves tells put calls old new → IsCounted (map outcome_of calls) (file_counts old) (file_counts new)
 counted_calls calls old new l =
     let fails = l.fails in
     let many = failure_count-calls calls in
@@ -94,7 +94,7 @@ handed_want : (answer : Option Sendable) (old new : List Answer) → Hands answe
 handed_want None old new h = ap is_want h.0
 handed_want (Some a) old new h = ap is_want h.0
 
-with_left : (c : CellState) (xs : List Answer) (f : File) → StandsFor c f → StandsFor (record c { left = xs }) f
+pub with_left : (c : CellState) (xs : List Answer) (f : File) → StandsFor c f → StandsFor (record c { left = xs }) f
 with_left c xs f h = record { side = h.side; writer = h.writer; base = h.base; sound = h.sound; content = h.content }
 
 -- a job was done
@@ -185,7 +185,7 @@ job_idle tells c e n n' (Some a) idles none hands rest is = absurd (cc (sym none
 -- the answers of a step of the open file are sent
 module _ (tells : Type 0) (old : PartState) (c e : CellState) (s : Store) (n n' : TraceState) (answer : Option Sendable) (is_open : old.opened ≡ Some c) (begun : n ≡ record (next_event old.noted) { room = n.room }) (few : old.noted.event < 2 ^ 64 - 1) (job : IsJob tells c e answer n n') where
   abbrev pub turned : PartState
-  turned = record { opened = Some (record e { left = [] }); desk = (send_result old.desk (first_answers answer ++ e.left)).desk; noted = n'; settings = old.settings }
+  turned = record { opened = Some (record e { left = [] }); desk = (send_result old.desk (first_answers answer ++ e.left)).desk; noted = n'; terms = old.terms }
 
   pub turn_acts : IsStep tells TurnFile (scene old s) (scene turned s) (send_result old.desk (first_answers answer ++ e.left)).text false
   unfolding next_part
@@ -210,13 +210,13 @@ module _ (tells : Type 0) (old : PartState) (c e : CellState) (s : Store) (n n' 
             ∙ ap (λ (x : TraceState). file_step_result w (turn_step o.0 (ahead_at x (job.outcomes ++ later)))) (sym begun)
             ∙ ap (λ a. answers_result u a step.ahead) t.answers ∙ ap (λ x. answers_result u (first_answers answer ++ e.left) x) t.ahead in
             subst (λ x. LeavesScene (scene turned s) (send_result old.desk (first_answers answer ++ e.left)).text false later x) (sym goes)
-            (sending u (scene turned s) old.desk (first_answers answer ++ e.left) later (step.file, refl, with_left e [] step.file t.stands, sym t.stands.content) h.desk refl h.settings);
+            (sending u (scene turned s) old.desk (first_answers answer ++ e.left) later (step.file, refl, with_left e [] step.file t.stands, sym t.stands.content) h.desk refl h.terms);
       }
 
 -- a pump
-module _ (tells : Type 0) (old : PartState) (c d : CellState) (s : Store) (n : TraceState) (is_open : old.opened ≡ Some c) (limits : c.limits ≡ old.settings.limits) (same : d.file ≡ c.file) (begun : n ≡ next_event old.noted) (few : old.noted.event < 2 ^ 64 - 1) (means : CellPumps c d) where
+module _ (tells : Type 0) (old : PartState) (c d : CellState) (s : Store) (n : TraceState) (is_open : old.opened ≡ Some c) (limits : c.limits ≡ old.terms.settings.limits) (same : d.file ≡ c.file) (begun : n ≡ next_event old.noted) (few : old.noted.event < 2 ^ 64 - 1) (means : CellPumps c d) where
   abbrev pub pumped : PartState
-  pumped = record { opened = Some (record d { left = [] }); desk = (send_result old.desk d.left).desk; noted = n; settings = old.settings }
+  pumped = record { opened = Some (record d { left = [] }); desk = (send_result old.desk d.left).desk; noted = n; terms = old.terms }
 
   pub pump_acts : IsStep tells PumpFile (scene old s) (scene pumped s) (send_result old.desk d.left).text false
   unfolding next_part
@@ -240,18 +240,18 @@ module _ (tells : Type 0) (old : PartState) (c d : CellState) (s : Store) (n : T
             let u : Part = record w { opened = Some step.file } in
             let goes : pump_act_result w.opened w (at_event (ahead_at old.noted later)) ≡ answers_result u d.left (ahead_at n later)
             = ap (λ x. pump_act_result x w (at_event (ahead_at old.noted later))) o.1
-            ∙ ap (λ (x : TraceState). file_step_result w (pump_step w.settings.limits o.0 (ahead_at x later))) (sym begun)
-            ∙ ap (λ x. file_step_result w (pump_step x o.0 t)) (ap (λ (x : Settings). x.limits) h.settings ∙ sym limits)
+            ∙ ap (λ (x : TraceState). file_step_result w (pump_step w.terms.settings.limits o.0 (ahead_at x later))) (sym begun)
+            ∙ ap (λ x. file_step_result w (pump_step x o.0 t)) (ap (λ (x : Terms). x.settings.limits) h.terms ∙ sym limits)
             ∙ ap (λ a. answers_result u a step.ahead) r.answers ∙ ap (λ x. answers_result u d.left x) r.ahead in
             subst (λ x. LeavesScene (scene pumped s) (send_result old.desk d.left).text false later x) (sym goes)
-            (sending u (scene pumped s) old.desk d.left later (step.file, refl, with_left d [] step.file r.stands, sym r.stands.content) h.desk refl h.settings);
+            (sending u (scene pumped s) old.desk d.left later (step.file, refl, with_left d [] step.file r.stands, sym r.stands.content) h.desk refl h.terms);
       }
 
 -- a sync
 module _ (tells : Type 0) (old : PartState) (c d : CellState) (s : Store) (n n' : TraceState) (how : Synced) (is_open : old.opened ≡ Some c) (begun : n ≡ record (next_event old.noted) { room = n.room }) (few : old.noted.event < 2 ^ 64 - 1)
     (notes : n' ≡ with_calls (sync_call how ∷ []) n) (leaves : Leaves tells [] (sync_call how ∷ []) c.file d.file) (means : SyncsFor tells how c d) where
   abbrev pub synced : PartState
-  synced = record { opened = Some (record d { left = [] }); desk = (send_result old.desk d.left).desk; noted = n'; settings = old.settings }
+  synced = record { opened = Some (record d { left = [] }); desk = (send_result old.desk d.left).desk; noted = n'; terms = old.terms }
 
   abbrev made : List Outcome
   made = map outcome_of (sync_call how ∷ [])
@@ -282,7 +282,7 @@ module _ (tells : Type 0) (old : PartState) (c d : CellState) (s : Store) (n n' 
             ∙ ap (λ (x : TraceState). file_step_result w (sync_step o.0 (ahead_at x (made ++ later)))) (sym begun)
             ∙ ap (λ a. answers_result u a step.ahead) r.answers ∙ ap (λ x. answers_result u d.left x) (r.ahead ∙ same_ahead n n' later event request) in
             subst (λ x. LeavesScene (scene synced s) (send_result old.desk d.left).text false later x) (sym goes)
-            (sending u (scene synced s) old.desk d.left later (step.file, refl, with_left d [] step.file r.stands, sym r.stands.content) h.desk refl h.settings);
+            (sending u (scene synced s) old.desk d.left later (step.file, refl, with_left d [] step.file r.stands, sym r.stands.content) h.desk refl h.terms);
       }
 
 -- no file is open
@@ -304,7 +304,7 @@ module _ (tells : Type 0) (old : PartState) (s : Store) (n : TraceState) (closed
     next = λ told w h later fine.
         let shut = (subst (λ x. IsOpen x (body_at s.body x) w) closed h.opened).0 in
         subst (λ x. LeavesScene (scene idle s) [] false later x) (sym (goes w (ahead_at old.noted later) shut ∙ ap (λ (x : TraceState). act_result w [] (ahead_at x later)) (sym begun)))
-        (record { part = record { opened = h.opened; desk = h.desk; settings = h.settings }; text_is = refl; stop = refl; ahead = refl });
+        (record { part = record { opened = h.opened; desk = h.desk; terms = h.terms }; text_is = refl; stop = refl; ahead = refl });
   })
 
   pub closed_turn : (text : List ℕ) → text ≡ [] → IsStep tells TurnFile (scene old s) (scene idle s) text false

@@ -27,6 +27,10 @@ pub data Act : Type 0 where
   PumpFile : Act
   -- an event: the writer syncs
   SyncFile : Act
+  -- an event begins, so many milliseconds later
+  BeginTick : (milliseconds : ℕ) → Act
+  -- the tick comes to the file of this number
+  TickFile : (file : ℕ) → Act
 
 -- a request with this number of its own
 abbrev pub IsRequest : Act → ℕ → ℕ → Type 0

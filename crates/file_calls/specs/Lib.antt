@@ -1,8 +1,10 @@
 pub mod Replies
 pub mod Counts
 pub mod Acts
+pub mod Terms
 pub mod Part
 pub mod OneReply
 pub mod Opening
 pub mod Outside
 pub mod PartSteps
+pub mod Ticks

@@ -1,8 +1,10 @@
 -- What is written to connections, whatever a store tells: each line is what one call of the desk gave, so a request gets at
--- most one reply.
+-- most one reply. Beside them stand the histories of files that were closed.
 use Rattle.std.specs.Prelude.{◌≡◌, ◌⊎◌, ℕ, List, [], ◌∷◌, ◌++◌, map, Option, Some, None}
 use Rattle.tickets.specs.Desk.{TicketId, DeskState, waiting_ticket}
 use Rattle.gw_model.specs.File.{Body, Silence, Answer}
+use Rattle.gw_model.specs.Ending.{History}
+use Rattle.file_cell.specs.History.{history_text}
 use Rattle.tickets.specs.Laws.{DeskCall, Issue, Refused, Send, DropTicket, CancelConn, after_call, after_calls}
 use Rattle.file_calls.specs.Replies.{reply_line, closed_line}
 use Rattle.file_calls.specs.Part.{send_result}
@@ -21,11 +23,20 @@ IsDeskLine (Issue conn xid) d line = line ≡ []
 IsDeskLine Refused d line = line ≡ []
 IsDeskLine (DropTicket number) d line = line ≡ []
 
--- of calls, one after another
+-- histories of closed files, one after another
+abbrev pub histories_text : List (ℕ × History) → List ℕ
+histories_text [] = []
+histories_text (h ∷ hs) = history_text h.0 h.1 ++ histories_text hs
+
+abbrev pub AreHistories : List ℕ → Type 0
+AreHistories text = (histories : List (ℕ × History)) × (text ≡ histories_text histories)
+
+-- of calls, one after another, with histories between them
 abbrev pub AreDeskLines : List DeskCall → DeskState → List ℕ → Type 0
-AreDeskLines [] d text = text ≡ []
+AreDeskLines [] d text = AreHistories text
 AreDeskLines (call ∷ calls) d text =
-    (line rest : List ℕ) × (text ≡ line ++ rest) × IsDeskLine call d line × AreDeskLines calls (after_call call d) rest
+    (before line rest : List ℕ) × (text ≡ before ++ (line ++ rest)) × AreHistories before × IsDeskLine call d line
+    × AreDeskLines calls (after_call call d) rest
 
 -- Calls that led from one desk to another, with what was written for them.
 pub record Speaks (old new : DeskState) (text : List ℕ) : Type 0 where

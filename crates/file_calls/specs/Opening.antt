@@ -1,6 +1,7 @@
 -- What the calls on the store come to by which a file is opened, and read while it is closed.
-use Rattle.std.specs.Prelude.{◌≡◌, ℕ, ◌+◌, ◌⊎◌, nat_le, List, [], ◌∷◌, length, map, None}
+use Rattle.std.specs.Prelude.{◌≡◌, ℕ, ◌+◌, ◌⊎◌, nat_le, List, [], ◌∷◌, length, map, Option}
 use Rattle.gw_model.specs.Ahead.{CallResult, Good, Bad, outcome_of}
+use Rattle.gw_model.specs.declared.Hull.{Hull}
 use Rattle.gw_model.specs.declared.limits.Limits.{Limits}
 use Rattle.gw_model.specs.Sides.{opened_side}
 use Rattle.gw_model.specs.Views.{TraceState}
@@ -16,15 +17,16 @@ use Rattle.file_calls.specs.declared.opening.Failure.{Failure}
 use Rattle.file_calls.specs.declared.opening.Failure.TheVariants as failure
 use Rattle.file_calls.specs.declared.opening.StoredRange.{StoredRange}
 
--- A cell that was just opened is held to these limits and has all bytes of the body, and its file is out.
-pub record IsOpened (tells : Type 0) (limits : Limits) (file : ℕ) (c : CellState) (before after : Store) (noted noted' : TraceState) : Type 0 where
+-- A cell that was just opened, with a hull and at a moment, is held to these limits and has all bytes of the body, and its file
+-- is out.
+pub record IsOpened (tells : Type 0) (limits : Limits) (hull : Option Hull) (moment : ℕ) (file : ℕ) (c : CellState) (before after : Store) (noted noted' : TraceState) : Type 0 where
   pub out : tells → after.body ≡ Lent c.file.mark
   pub content : tells → c.file.content ≡ bytes_of before.body
   pub faults : c.file.faults ≡ 0
   pub no_calls : c.file.tally ≡ no_calls
   pub id : c.id.0 ≡ file
   pub base : c.base ≡ length c.file.content
-  pub side : c.side ≡ opened_side (length c.file.content) None 0
+  pub side : c.side ≡ opened_side (length c.file.content) hull moment
   pub writer : c.writer ≡ fresh_writer (length c.file.content)
   pub limits_are : c.limits ≡ limits
   pub left : c.left ≡ []

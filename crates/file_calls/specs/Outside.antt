@@ -18,6 +18,8 @@ use Rattle.file_calls.specs.Counts.{Counts, IsCounted, file_counts, joined_count
 use Rattle.file_calls.specs.OneReply.{Speaks}
 use Rattle.file_calls.specs.Part.{Part, PartResult, next_part}
 use Rattle.file_calls.specs.Acts.{Act}
+use Rattle.file_calls.specs.Terms.{Terms}
+use Rattle.file_calls.specs.declared.hull.ClosedHull.{ClosedHull}
 use Rattle.file_calls.specs.declared.part.StepResult.{StepResult}
 use Rattle.file_calls.specs.declared.part.StepResult.TheVariants as stepped
 
@@ -43,14 +45,15 @@ OthersStay g tells file c c' = tells → (q : ObjectId) → q ≢ body_id file �
 
 -- what the program keeps
 
--- the requests that wait for an answer, the outcomes that were noted, and the settings
+-- the requests that wait for an answer, the outcomes that were noted, the settings and the moment
 pub record TrackerState : Type 0 where
   pub desk : DeskState
   pub noted : TraceState
   pub settings : Settings
+  pub moment : ℕ
 
 abbrev pub new_tracker : Settings → TrackerState
-new_tracker settings = record { desk = new_desk; noted = empty_trace; settings = settings }
+new_tracker settings = record { desk = new_desk; noted = empty_trace; settings = settings; moment = 0 }
 
 -- its outcomes are forgotten
 abbrev pub without_outcomes : TrackerState → ℕ → TrackerState
@@ -61,10 +64,14 @@ pub record PartState : Type 0 where
   pub opened : Option CellState
   pub desk : DeskState
   pub noted : TraceState
-  pub settings : Settings
+  pub terms : Terms
 
-abbrev pub part_state : Option CellState → TrackerState → PartState
-part_state opened tracker = record { opened = opened; desk = tracker.desk; noted = tracker.noted; settings = tracker.settings }
+-- with what was lost of a file when it was closed
+abbrev pub terms_at : TrackerState → Option ClosedHull → Terms
+terms_at tracker lost = record { settings = tracker.settings; moment = tracker.moment; lost = lost }
+
+abbrev pub part_state : Option ClosedHull → Option CellState → TrackerState → PartState
+part_state lost opened tracker = record { opened = opened; desk = tracker.desk; noted = tracker.noted; terms = terms_at tracker lost }
 
 -- The same with what is seen outside: the bytes of the body, and what the store counts, with what the file that is out
 -- counts.
@@ -87,8 +94,8 @@ counts_at n (Some c) = joined_counts n (file_counts c.file)
 abbrev pub scene : PartState → Store → Scene
 scene k s = record { kept = k; body = body_at s.body k.opened; counts = counts_at s.counts k.opened }
 
-abbrev pub scene_of : {C F : Type 0} → ℕ → Ghosts C F → Option CellState → TrackerState → C → Scene
-scene_of file g opened tracker c = scene (part_state opened tracker) (store_view file g c)
+abbrev pub scene_of : {C F : Type 0} → ℕ → Ghosts C F → Option ClosedHull → Option CellState → TrackerState → C → Scene
+scene_of file g lost opened tracker c = scene (part_state lost opened tracker) (store_view file g c)
 
 -- what a store counts after it got the file back, if one was out
 pub record CarriesCounts (before given now : Counts) : Type 0 where
@@ -115,7 +122,7 @@ IsOpen (Some c) body w = (f : File) × (w.opened ≡ Some f) × StandsFor c f ×
 pub record IsPart (s : Scene) (w : Part) : Type 0 where
   pub opened : IsOpen s.kept.opened s.body w
   pub desk : w.desk ≡ s.kept.desk
-  pub settings : w.settings ≡ s.kept.settings
+  pub terms : w.terms ≡ s.kept.terms
 
 -- the outcomes that are ahead of the event and the request that stand now
 abbrev pub ahead_at : TraceState → List Outcome → Outcomes

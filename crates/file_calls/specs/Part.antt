@@ -1,27 +1,29 @@
 -- The sequential definition, cut to one file's part: what each act leaves of it, and what it writes.
-use Rattle.std.specs.Prelude.{ℕ, ◌+◌, ◌^◌, min, nat_le, Bool, true, false, List, [], ◌∷◌, ◌++◌, length, Option, Some, None}
+use Rattle.std.specs.Prelude.{ℕ, ◌+◌, ◌^◌, min, nat_le, not, Bool, true, false, List, [], ◌∷◌, ◌++◌, length, Option, Some, None}
 use Rattle.gw_model.specs.Ahead.{Outcomes, CallResult, Good, Bad, next_call, is_refused, past_refusal}
-use Rattle.gw_model.specs.File.{Body, NotWritten, Gave, NotGiven, Committed, SystemErr, Silence, Answer, File, Step, opened_file, content}
+use Rattle.gw_model.specs.File.{Body, NotWritten, Gave, NotGiven, SystemErr, Silence, Answer, File, Step, opened_file, content, is_empty, side_of}
 use Rattle.gw_model.specs.Admission.{write_step, WriteRequest, read_step, ReadRequest, commit_step, CommitRequest, limit_of, pump_step}
+use Rattle.gw_model.specs.Ending.{Closed, Closing, TickJudgement, Stays, GivesUp, Closes, closing_of, give_up_step, history_of, tick_judgement}
 use Rattle.gw_model.specs.Statuses.{io}
 use Rattle.gw_model.specs.Views.{raised}
 use Rattle.gw_model.specs.Writer.{turn_step, sync_step, range_of}
-use Rattle.gw_config.specs.Settings.{Settings}
 use Rattle.tickets.specs.Desk.{TicketId, DeskState, waiting_ticket, with_issued, with_dropped, with_answered, with_cancelled}
+use Rattle.file_cell.specs.History.{history_text}
 use Rattle.file_calls.specs.Replies.{reply_bytes, reply_line, closed_line}
 use Rattle.file_calls.specs.declared.call.CommitCall.{CommitCall}
 use Rattle.file_calls.specs.declared.call.ReadCall.{ReadCall}
 use Rattle.file_calls.specs.declared.call.WriteCall.{WriteCall}
-use Rattle.file_calls.specs.Acts.{Act, CreateFile, BeginEvent, Reply, WriteFile, ReadFile, CommitFile, CloseConnection, HangUp, TurnFile, PumpFile, SyncFile}
+use Rattle.file_calls.specs.Acts.{Act, CreateFile, BeginEvent, Reply, WriteFile, ReadFile, CommitFile, CloseConnection, HangUp, TurnFile, PumpFile, SyncFile, BeginTick, TickFile}
+use Rattle.file_calls.specs.Terms.{Terms, closed_commit_body, closed_hull, later_terms, opening_hull}
 
--- One file's part of the world, with the tickets and the settings, which all files share.
+-- One file's part of the world, with the tickets, the settings and the moment, which all files share.
 pub record Part : Type 0 where
   -- what the file's body holds while the file has no context
   pub body : List ℕ
   pub opened : Option File
   -- the tickets issued, and those that wait for an answer
   pub desk : DeskState
-  pub settings : Settings
+  pub terms : Terms
 
 -- what the body holds
 abbrev pub body_in : List ℕ → Option File → List ℕ
@@ -113,24 +115,24 @@ reply_result reply w t = act_result (record w { desk = with_answered w.desk.last
 
 -- WRITE
 
-abbrev pub call_write_request : WriteCall → ℕ → WriteRequest
-call_write_request call ticket = record { offset = call.offset; bytes = call.content; level = call.stable; ticket = ticket; moment = 0 }
+abbrev pub call_write_request : WriteCall → ℕ → ℕ → WriteRequest
+call_write_request call ticket moment = record { offset = call.offset; bytes = call.content; level = call.stable; ticket = ticket; moment = moment }
 
 -- by what the call did that takes the body from the store, and whether memory is refused then
 abbrev pub first_write_result : CallResult → Bool → Part → WriteRequest → Outcomes → PartResult
 first_write_result (Bad kept) refusal w q t = answer_result w q.ticket (NotWritten io) t
 first_write_result Good true w q t = refusal_result w q.ticket t
-first_write_result Good false w q t = file_step_result w (write_step w.settings.limits (opened_file w.body None 0) q t)
+first_write_result Good false w q t = file_step_result w (write_step w.terms.settings.limits (opened_file w.body (opening_hull w.terms.lost) w.terms.moment) q t)
 
 -- the first write opens the file
 abbrev pub write_act_result : Option File → Part → WriteRequest → Outcomes → PartResult
-write_act_result (Some f) w q t = file_step_result w (write_step w.settings.limits f q t)
+write_act_result (Some f) w q t = file_step_result w (write_step w.terms.settings.limits f q t)
 write_act_result None w q t = let c = next_call t in first_write_result c.called (is_refused c.ahead) w q c.ahead
 
 -- READ
 
-abbrev pub call_read_request : ReadCall → ℕ → ReadRequest
-call_read_request call ticket = record { offset = call.offset; count = call.count; ticket = ticket; moment = 0 }
+abbrev pub call_read_request : ReadCall → ℕ → ℕ → ReadRequest
+call_read_request call ticket moment = record { offset = call.offset; count = call.count; ticket = ticket; moment = moment }
 
 -- what is stored of a range, and whether it ends at the stored length or behind it
 abbrev pub stored_range : ℕ → ℕ → List ℕ → Body
@@ -144,18 +146,18 @@ stored_read_result Good false w q t = answer_result w q.ticket (stored_range q.o
 
 -- one that finds the file closed reads what is stored
 abbrev pub read_act_result : Option File → Part → ReadRequest → Outcomes → PartResult
-read_act_result (Some f) w q t = file_step_result w (read_step w.settings.limits f q t)
+read_act_result (Some f) w q t = file_step_result w (read_step w.terms.settings.limits f q t)
 read_act_result None w q t = let c = next_call t in stored_read_result c.called (is_refused c.ahead) w q c.ahead
 
 -- COMMIT
 
-abbrev pub call_commit_request : CommitCall → ℕ → CommitRequest
-call_commit_request call ticket = record { limit = limit_of call.offset call.count; ticket = ticket; moment = 0 }
+abbrev pub call_commit_request : CommitCall → ℕ → ℕ → CommitRequest
+call_commit_request call ticket moment = record { limit = limit_of call.offset call.count; ticket = ticket; moment = moment }
 
--- one that finds the file closed is done at once (RFC 1813 section 3.3.21)
+-- one that finds the file closed is answered at once
 abbrev pub commit_act_result : Option File → Part → CommitRequest → Outcomes → PartResult
-commit_act_result (Some f) w q t = file_step_result w (commit_step w.settings.limits f q t)
-commit_act_result None w q t = answer_result w q.ticket Committed t
+commit_act_result (Some f) w q t = file_step_result w (commit_step w.terms.settings.limits f q t)
+commit_act_result None w q t = answer_result w q.ticket (closed_commit_body w.terms.lost q.limit) t
 
 -- steps of the file
 
@@ -171,11 +173,36 @@ turn_act_result (Some f) w t = file_step_result w (turn_step f t)
 
 abbrev pub pump_act_result : Option File → Part → Outcomes → PartResult
 pump_act_result None w t = act_result w [] t
-pump_act_result (Some f) w t = file_step_result w (pump_step w.settings.limits f t)
+pump_act_result (Some f) w t = file_step_result w (pump_step w.terms.settings.limits f t)
 
 abbrev pub sync_act_result : Option File → Part → Outcomes → PartResult
 sync_act_result None w t = act_result w [] t
 sync_act_result (Some f) w t = file_step_result w (sync_step f t)
+
+-- a tick
+
+-- An idle file is closed: its history is written, and what was lost of it is kept. It stays where its sync failed.
+abbrev pub file_closing_by : Bool → ℕ → Part → File → Outcomes → PartResult
+file_closing_by true file w f t =
+    act_result (record w { body = content f; opened = None; terms = record w.terms { lost = closed_hull f.held.hull f.writer.stored } }) (history_text file (history_of f Closed)) t
+file_closing_by false file w f t = act_result (record w { opened = Some f }) [] t
+
+abbrev pub file_closing_result : ℕ → Part → Closing → PartResult
+file_closing_result file w c = file_closing_by c.closed file w c.file c.ahead
+
+-- what the tick judges of the file
+abbrev pub judgement_at : Terms → File → TickJudgement
+judgement_at terms f = tick_judgement terms.settings.limits (side_of f) (not (is_empty f.writer.owed)) terms.moment
+
+abbrev pub tick_result_by : TickJudgement → ℕ → Part → File → Outcomes → PartResult
+tick_result_by Stays file w f t = act_result w [] t
+tick_result_by GivesUp file w f t = file_step_result w (give_up_step w.terms.moment f t)
+tick_result_by Closes file w f t = file_closing_result file w (closing_of f t)
+
+-- a file that isn't open is passed over
+abbrev pub tick_act_result : ℕ → Option File → Part → Outcomes → PartResult
+tick_act_result file None w t = act_result w [] t
+tick_act_result file (Some f) w t = tick_result_by (judgement_at w.terms f) file w f t
 
 -- a connection ends: none of its requests is answered any more
 abbrev pub closing_result : Part → ℕ → Outcomes → PartResult
@@ -185,13 +212,13 @@ abbrev pub reply_action : List ℕ → Part → Outcomes → PartResult
 reply_action reply w t = reply_result reply w t
 
 abbrev pub write_action : WriteCall → Part → Outcomes → PartResult
-write_action call w t = write_act_result w.opened w (call_write_request call w.desk.last) t
+write_action call w t = write_act_result w.opened w (call_write_request call w.desk.last w.terms.moment) t
 
 abbrev pub read_action : ReadCall → Part → Outcomes → PartResult
-read_action call w t = read_act_result w.opened w (call_read_request call w.desk.last) t
+read_action call w t = read_act_result w.opened w (call_read_request call w.desk.last w.terms.moment) t
 
 abbrev pub commit_action : CommitCall → Part → Outcomes → PartResult
-commit_action call w t = commit_act_result w.opened w (call_commit_request call w.desk.last) t
+commit_action call w t = commit_act_result w.opened w (call_commit_request call w.desk.last w.terms.moment) t
 
 -- it hangs up: so too, and nothing is written
 abbrev pub hang_up_result : Part → ℕ → Outcomes → PartResult
@@ -209,3 +236,5 @@ next_part w (CloseConnection conn) t = closing_result w conn t
 next_part w TurnFile t = turn_act_result w.opened w (at_event t)
 next_part w PumpFile t = pump_act_result w.opened w (at_event t)
 next_part w SyncFile t = sync_act_result w.opened w (at_event t)
+next_part w (BeginTick milliseconds) t = act_result (record w { terms = later_terms milliseconds w.terms }) [] (at_event t)
+next_part w (TickFile file) t = tick_act_result file w.opened w t

@@ -30,8 +30,8 @@ abbrev pub IsReadyIn : Limits → ℕ → Option CellState → Type 0
 IsReadyIn limits file None = Unit {0}
 IsReadyIn limits file (Some c) = IsCellReady limits file c
 
--- A request has the next number of its event, and the next ticket; there is room for the notes that it may make. The settings
--- stay.
+-- A request has the next number of its event, and the next ticket; there is room for the notes that it may make. What the
+-- file is judged by stays.
 pub record IsAsked (conn xid notes : ℕ) (ticket : TicketId) (old new : PartState) : Type 0 where
   pub opened : new.opened ≡ old.opened
   pub desk : new.desk ≡ with_issued conn xid old.desk
@@ -39,7 +39,7 @@ pub record IsAsked (conn xid notes : ℕ) (ticket : TicketId) (old new : PartSta
   pub ticket_is : ticket ≡ next_ticket conn xid old.desk
   pub room : notes ≤ new.noted.room
   pub counted : old.noted.request < 2 ^ 64 - 1
-  pub settings : new.settings ≡ old.settings
+  pub terms : new.terms ≡ old.terms
 
 -- only the room may have grown
 abbrev pub SameButRoom : PartState → PartState → Type 0
@@ -87,9 +87,13 @@ SameFile None None = Unit {0}
 SameFile (Some c) (Some d) = d.file.mark ≡ c.file.mark
 SameFile _ _ = ⊥
 
--- the event and the request that stand now are the same, and so are the settings
+-- the settings and the moment are the same
+abbrev pub SameTerms : TrackerState → TrackerState → Type 0
+SameTerms old new = (new.settings ≡ old.settings) × (new.moment ≡ old.moment)
+
+-- so are the event and the request that stand now
 abbrev pub SameNumbers : TrackerState → TrackerState → Type 0
-SameNumbers old new = (new.noted.event ≡ old.noted.event) × (new.noted.request ≡ old.noted.request) × (new.settings ≡ old.settings)
+SameNumbers old new = (new.noted.event ≡ old.noted.event) × (new.noted.request ≡ old.noted.request) × SameTerms old new
 
 -- these outcomes don't begin with a refusal of memory for an event and request before this
 abbrev pub are_from : ℕ → ℕ → List Outcome → Type 0

@@ -5,11 +5,14 @@ ghost use Rattle.admit.specs.Calls.{verdict_answers};
 ghost use Rattle.tickets.specs.declared.answer.Body.TheVariants.{Read as ReadBody, Write as WriteBody};
 ghost use Rattle.file_calls.specs.PartSteps.{IsPlainVerdict};
 ghost use Rattle.file_calls.specs.Part.{send_result};
+ghost use Rattle.file_calls.specs.Terms.{closed_commit_body};
 
+use crate::hull::ClosedHull;
 use crate::reply::reply_text;
 use admit::Verdict;
 use append_store::AppendFile;
 use file_cell::FileCell;
+use gw_model::status::NFS3ERR_IO;
 use range_map::PendingMap;
 use std::alloc::{AllocError, Global};
 use tickets::{Answer, Body, ReplyDesk, Sent, Ticket};
@@ -37,6 +40,17 @@ pub fn read_answer(ticket: Ticket, status: u32, eof: bool, bytes: Vec<u8>) -> An
     Answer {
         ticket,
         body: Body::Read { status, eof, bytes },
+    }
+}
+
+/// The answer to a COMMIT of a closed file (RFC 1813 section 3.3.21).
+pub fn closed_answer(ticket: Ticket, lost: Option<ClosedHull>, limit: u64) -> Answer
+    ensures answer { answer_of result ≡ record { ticket = ticket.number; body = closed_commit_body lost limit } }
+    ensures plain { IsPlain result.body }
+{
+    match lost {
+        Some(lost) if lost.bars(limit) => Answer::not_committed(ticket, NFS3ERR_IO),
+        _ => Answer::committed(ticket),
     }
 }
 

@@ -3,6 +3,8 @@
 
 mod answers;
 mod call;
+mod closing;
+mod hull;
 mod laws;
 mod opening;
 mod part;
@@ -12,6 +14,8 @@ mod tests;
 mod tracker;
 
 pub use call::{CommitCall, ReadCall, WriteCall};
+pub use closing::{ClosedFile, Visit, end_cell, tick_cell};
+pub use hull::ClosedHull;
 pub use laws::send_laws;
 pub use part::{
     FirstWrite, StepResult, close_cell, commit_cell, commit_closed, create_body, first_write,

@@ -7,7 +7,7 @@ ghost use Rattle.file_calls.specs.Outside.{body_id, store_view, OthersStay};
 
 use append_store::{AppendFile, Cluster};
 use file_cell::FileCell;
-use gw_model::{FileId, Limits, ObjectId, Outcome, Trace};
+use gw_model::{FileId, Hull, Limits, ObjectId, Outcome, Trace};
 use job_line::open_line;
 use range_map::TreeMap;
 use std::alloc::Global;
@@ -27,12 +27,14 @@ pub enum Failure {
     Memory,
 }
 
-/// Takes the body from the store and opens the file, held to these limits, on a line of its own. The call is noted. Takes
-/// memory; where that is refused the store has the body.
+/// Takes the body from the store and opens the file, held to these limits, at a moment in milliseconds, with what was lost of it
+/// when it was closed, on a line of its own. The call is noted. Takes memory; where that is refused the store has the body.
 pub fn open_file<C: Cluster>(
     alloc: Global,
     file: u64,
     limits: Limits,
+    hull: Option<Hull>,
+    moment: u64,
     cluster: &mut C,
     trace: &mut Trace,
 ) -> Result<FileCell<C::File, TreeMap>, Failure>
@@ -40,7 +42,7 @@ pub fn open_file<C: Cluster>(
     requires noted { 0 < trace.old.room }
     requires slots { limits.line_slots ≤ 8 }
     requires history { limits.history < 2 ^ 32 }
-    ensures opened { IfOk result (λ c. IsOpened C.File.tells limits file c
+    ensures opened { IfOk result (λ c. IsOpened C.File.tells limits hull moment file c
         (store_view file C.Cluster cluster.old) (store_view file C.Cluster cluster.new) trace.old trace.new) }
     ensures failed { IfErr result (λ f. FailsClosed C.File.tells f
         (store_view file C.Cluster cluster.old) (store_view file C.Cluster cluster.new) trace.old trace.new) }
@@ -57,7 +59,7 @@ pub fn open_file<C: Cluster>(
     trace.note(Outcome::Done);
     // The length bounds the body's.
     let _ = body.len();
-    match FileCell::open(alloc, FileId(file), body, ends, limits, None, 0) {
+    match FileCell::open(alloc, FileId(file), body, ends, limits, hull, moment) {
         Ok(cell) => Ok(cell),
         Err((body, _)) => {
             cluster.give_file(ObjectId::Body { file, version: 1 }, body);

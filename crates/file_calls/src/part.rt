@@ -6,15 +6,17 @@ ghost use Rattle.gw_model.specs.declared.object.ObjectId.{ObjectId};
 ghost use Rattle.append_store.specs.State.{Lent, Missing, IsAway, bytes_of};
 ghost use Rattle.admit.specs.Calls.{write_request};
 ghost use Rattle.file_cell.specs.State.{CellState};
+ghost use Rattle.file_calls.specs.declared.hull.ClosedHull.{ClosedHull};
 ghost use Rattle.file_calls.specs.Counts.{file_counts};
 ghost use Rattle.file_calls.specs.Acts.{CreateFile, WriteFile, ReadFile, CommitFile, TurnFile, PumpFile, SyncFile};
 ghost use Rattle.file_calls.specs.Part.{read_action, request_result, send_result, write_act_result};
 ghost use Rattle.file_calls.specs.Outside.{Store, body_id, part_state, scene, scene_of, store_counts, CarriesCounts, OthersStay};
 ghost use Rattle.file_calls.specs.Outside.{IsActCut, IsActed, IsBodyHome, IsBodySafe, IsText, StepsTo};
-ghost use Rattle.file_calls.specs.PartSteps.{IsCellReady, IsClosedBy, IsJob, IsPlainAnswer, IsReadyIn, SameNumbers, SameSettings, Tries, first_answers, is_want_in};
+ghost use Rattle.file_calls.specs.PartSteps.{IsCellReady, IsClosedBy, IsJob, IsPlainAnswer, IsReadyIn, SameNumbers, SameSettings, SameTerms, Tries, first_answers, is_want_in};
 
-use crate::answers::{not_written, read_answer, send_left, send_one};
+use crate::answers::{closed_answer, not_written, read_answer, send_left, send_one};
 use crate::call::{CommitCall, ReadCall, WriteCall};
+use crate::hull::{ClosedHull, opening_hull};
 use crate::opening::{Failure, open_file, read_body};
 use crate::tracker::{NOTES, RequestTracker};
 use admit::{CommitReq, ReadReq, Verdict, WriteReq};
@@ -103,14 +105,14 @@ pub fn turn_cell<F: AppendFile, M: PendingMap>(
 ) -> Result<String, AllocError>
     requires none_left { cell.old.left ≡ [] }
     requires few { tracker.old.noted.event < 2 ^ 64 - 1 }
-    ensures ok { (s : Store) → IfOk result (StepsTo F.tells TurnFile
-        (scene (part_state (Some cell.old) tracker.old) s) (scene (part_state (Some cell.new) tracker.new) s)) }
-    ensures err { (s : Store) → OnErr result (IsActCut F.tells TurnFile
-        (scene (part_state (Some cell.old) tracker.old) s) (scene (part_state (Some cell.new) tracker.new) s)) }
+    ensures ok { (lost : Option ClosedHull) (s : Store) → IfOk result (StepsTo F.tells TurnFile
+        (scene (part_state lost (Some cell.old) tracker.old) s) (scene (part_state lost (Some cell.new) tracker.new) s)) }
+    ensures err { (lost : Option ClosedHull) (s : Store) → OnErr result (IsActCut F.tells TurnFile
+        (scene (part_state lost (Some cell.old) tracker.old) s) (scene (part_state lost (Some cell.new) tracker.new) s)) }
     ensures none_left { cell.new.left ≡ [] }
     ensures same { SameSettings cell.old cell.new }
     ensures event { tracker.new.noted.event ≡ tracker.old.noted.event + 1 }
-    ensures settings { tracker.new.settings ≡ tracker.old.settings }
+    ensures terms { SameTerms tracker.old tracker.new }
 {
     tracker.trace.begin_event();
     if tracker.trace.reserve(NOTES).is_err() {
@@ -129,14 +131,14 @@ pub fn pump_cell<F: AppendFile, M: PendingMap>(
     requires none_left { cell.old.left ≡ [] }
     requires limits { cell.old.limits ≡ tracker.old.settings.limits }
     requires few { tracker.old.noted.event < 2 ^ 64 - 1 }
-    ensures ok { (s : Store) → IfOk result (StepsTo F.tells PumpFile
-        (scene (part_state (Some cell.old) tracker.old) s) (scene (part_state (Some cell.new) tracker.new) s)) }
-    ensures err { (s : Store) → OnErr result (IsActCut F.tells PumpFile
-        (scene (part_state (Some cell.old) tracker.old) s) (scene (part_state (Some cell.new) tracker.new) s)) }
+    ensures ok { (lost : Option ClosedHull) (s : Store) → IfOk result (StepsTo F.tells PumpFile
+        (scene (part_state lost (Some cell.old) tracker.old) s) (scene (part_state lost (Some cell.new) tracker.new) s)) }
+    ensures err { (lost : Option ClosedHull) (s : Store) → OnErr result (IsActCut F.tells PumpFile
+        (scene (part_state lost (Some cell.old) tracker.old) s) (scene (part_state lost (Some cell.new) tracker.new) s)) }
     ensures none_left { cell.new.left ≡ [] }
     ensures same { SameSettings cell.old cell.new }
     ensures event { tracker.new.noted.event ≡ tracker.old.noted.event + 1 }
-    ensures settings { tracker.new.settings ≡ tracker.old.settings }
+    ensures terms { SameTerms tracker.old tracker.new }
 {
     tracker.trace.begin_event();
     cell.pump_step();
@@ -155,14 +157,14 @@ pub fn sync_cell<F: AppendFile, M: PendingMap>(
 ) -> Result<String, AllocError>
     requires none_left { cell.old.left ≡ [] }
     requires few { tracker.old.noted.event < 2 ^ 64 - 1 }
-    ensures ok { (s : Store) → IfOk result (StepsTo F.tells SyncFile
-        (scene (part_state (Some cell.old) tracker.old) s) (scene (part_state (Some cell.new) tracker.new) s)) }
-    ensures err { (s : Store) → OnErr result (IsActCut F.tells SyncFile
-        (scene (part_state (Some cell.old) tracker.old) s) (scene (part_state (Some cell.new) tracker.new) s)) }
+    ensures ok { (lost : Option ClosedHull) (s : Store) → IfOk result (StepsTo F.tells SyncFile
+        (scene (part_state lost (Some cell.old) tracker.old) s) (scene (part_state lost (Some cell.new) tracker.new) s)) }
+    ensures err { (lost : Option ClosedHull) (s : Store) → OnErr result (IsActCut F.tells SyncFile
+        (scene (part_state lost (Some cell.old) tracker.old) s) (scene (part_state lost (Some cell.new) tracker.new) s)) }
     ensures none_left { cell.new.left ≡ [] }
     ensures same { SameSettings cell.old cell.new }
     ensures event { tracker.new.noted.event ≡ tracker.old.noted.event + 1 }
-    ensures settings { tracker.new.settings ≡ tracker.old.settings }
+    ensures terms { SameTerms tracker.old tracker.new }
 {
     tracker.trace.begin_event();
     if tracker.trace.reserve(NOTES).is_err() {
@@ -180,14 +182,14 @@ pub fn sync_cell<F: AppendFile, M: PendingMap>(
 /// An event of a file that isn't open: nothing is done but that it begins.
 pub fn idle_event(tracker: &mut RequestTracker) -> String
     requires few { tracker.old.noted.event < 2 ^ 64 - 1 }
-    ensures turn { (s : Store) → StepsTo (Unit {0}) TurnFile
-        (scene (part_state None tracker.old) s) (scene (part_state None tracker.new) s) result }
-    ensures pump { (s : Store) → StepsTo (Unit {0}) PumpFile
-        (scene (part_state None tracker.old) s) (scene (part_state None tracker.new) s) result }
-    ensures sync { (s : Store) → StepsTo (Unit {0}) SyncFile
-        (scene (part_state None tracker.old) s) (scene (part_state None tracker.new) s) result }
+    ensures turn { (lost : Option ClosedHull) (s : Store) → StepsTo (Unit {0}) TurnFile
+        (scene (part_state lost None tracker.old) s) (scene (part_state lost None tracker.new) s) result }
+    ensures pump { (lost : Option ClosedHull) (s : Store) → StepsTo (Unit {0}) PumpFile
+        (scene (part_state lost None tracker.old) s) (scene (part_state lost None tracker.new) s) result }
+    ensures sync { (lost : Option ClosedHull) (s : Store) → StepsTo (Unit {0}) SyncFile
+        (scene (part_state lost None tracker.old) s) (scene (part_state lost None tracker.new) s) result }
     ensures event { tracker.new.noted.event ≡ tracker.old.noted.event + 1 }
-    ensures settings { tracker.new.settings ≡ tracker.old.settings }
+    ensures terms { SameTerms tracker.old tracker.new }
 {
     tracker.trace.begin_event();
     String::new(tracker.alloc)
@@ -203,14 +205,14 @@ pub fn write_cell<F: AppendFile, M: PendingMap>(
     requires limits { cell.old.limits ≡ tracker.old.settings.limits }
     requires few { length call.content ≤ 1048576 }
     requires below { call.offset + length call.content < 2 ^ 63 }
-    ensures ok { (s : Store) → IfOk result (StepsTo F.tells (WriteFile conn call)
-        (scene (part_state (Some cell.old) tracker.old) s) (scene (part_state (Some cell.new) tracker.new) s)) }
-    ensures err { (s : Store) → OnErr result (IsActCut F.tells (WriteFile conn call)
-        (scene (part_state (Some cell.old) tracker.old) s) (scene (part_state (Some cell.new) tracker.new) s)) }
+    ensures ok { (lost : Option ClosedHull) (s : Store) → IfOk result (StepsTo F.tells (WriteFile conn call)
+        (scene (part_state lost (Some cell.old) tracker.old) s) (scene (part_state lost (Some cell.new) tracker.new) s)) }
+    ensures err { (lost : Option ClosedHull) (s : Store) → OnErr result (IsActCut F.tells (WriteFile conn call)
+        (scene (part_state lost (Some cell.old) tracker.old) s) (scene (part_state lost (Some cell.new) tracker.new) s)) }
     ensures ready { (limits : Limits) (k : ℕ) → IsCellReady limits k cell.old → IsCellReady limits k cell.new }
     ensures same { cell.new.file ≡ cell.old.file }
     ensures event { tracker.new.noted.event ≡ tracker.old.noted.event }
-    ensures settings { tracker.new.settings ≡ tracker.old.settings }
+    ensures terms { SameTerms tracker.old tracker.new }
 {
     let ticket = tracker.begin_request(conn, call.xid)?;
     let verdict = cell.write(WriteReq {
@@ -218,7 +220,7 @@ pub fn write_cell<F: AppendFile, M: PendingMap>(
         stable: call.stable,
         bytes: call.content,
         ticket,
-        moment: 0,
+        moment: tracker.moment(),
     });
     tracker.send_verdict(verdict)
 }
@@ -231,21 +233,21 @@ pub fn read_cell<F: AppendFile, M: PendingMap>(
     tracker: &mut RequestTracker,
 ) -> Result<String, AllocError>
     requires limits { cell.old.limits ≡ tracker.old.settings.limits }
-    ensures ok { (s : Store) → IfOk result (StepsTo F.tells (ReadFile conn call)
-        (scene (part_state (Some cell.old) tracker.old) s) (scene (part_state (Some cell.new) tracker.new) s)) }
-    ensures err { (s : Store) → OnErr result (IsActCut F.tells (ReadFile conn call)
-        (scene (part_state (Some cell.old) tracker.old) s) (scene (part_state (Some cell.new) tracker.new) s)) }
+    ensures ok { (lost : Option ClosedHull) (s : Store) → IfOk result (StepsTo F.tells (ReadFile conn call)
+        (scene (part_state lost (Some cell.old) tracker.old) s) (scene (part_state lost (Some cell.new) tracker.new) s)) }
+    ensures err { (lost : Option ClosedHull) (s : Store) → OnErr result (IsActCut F.tells (ReadFile conn call)
+        (scene (part_state lost (Some cell.old) tracker.old) s) (scene (part_state lost (Some cell.new) tracker.new) s)) }
     ensures ready { (limits : Limits) (k : ℕ) → IsCellReady limits k cell.old → IsCellReady limits k cell.new }
     ensures same { cell.new.file ≡ cell.old.file }
     ensures event { tracker.new.noted.event ≡ tracker.old.noted.event }
-    ensures settings { tracker.new.settings ≡ tracker.old.settings }
+    ensures terms { SameTerms tracker.old tracker.new }
 {
     let ticket = tracker.begin_request(conn, call.xid)?;
     let verdict = cell.read(ReadReq {
         offset: call.offset,
         count: call.count,
         ticket,
-        moment: 0,
+        moment: tracker.moment(),
     });
     tracker.send_verdict(verdict)
 }
@@ -258,39 +260,40 @@ pub fn commit_cell<F: AppendFile, M: PendingMap>(
     tracker: &mut RequestTracker,
 ) -> Result<String, AllocError>
     requires limits { cell.old.limits ≡ tracker.old.settings.limits }
-    ensures ok { (s : Store) → IfOk result (StepsTo F.tells (CommitFile conn call)
-        (scene (part_state (Some cell.old) tracker.old) s) (scene (part_state (Some cell.new) tracker.new) s)) }
-    ensures err { (s : Store) → OnErr result (IsActCut F.tells (CommitFile conn call)
-        (scene (part_state (Some cell.old) tracker.old) s) (scene (part_state (Some cell.new) tracker.new) s)) }
+    ensures ok { (lost : Option ClosedHull) (s : Store) → IfOk result (StepsTo F.tells (CommitFile conn call)
+        (scene (part_state lost (Some cell.old) tracker.old) s) (scene (part_state lost (Some cell.new) tracker.new) s)) }
+    ensures err { (lost : Option ClosedHull) (s : Store) → OnErr result (IsActCut F.tells (CommitFile conn call)
+        (scene (part_state lost (Some cell.old) tracker.old) s) (scene (part_state lost (Some cell.new) tracker.new) s)) }
     ensures ready { (limits : Limits) (k : ℕ) → IsCellReady limits k cell.old → IsCellReady limits k cell.new }
     ensures same { cell.new.file ≡ cell.old.file }
     ensures event { tracker.new.noted.event ≡ tracker.old.noted.event }
-    ensures settings { tracker.new.settings ≡ tracker.old.settings }
+    ensures terms { SameTerms tracker.old tracker.new }
 {
     let ticket = tracker.begin_request(conn, call.xid)?;
     let verdict = cell.commit(CommitReq {
         limit: call.limit(),
         ticket,
-        moment: 0,
+        moment: tracker.moment(),
     });
     tracker.send_verdict(verdict)
 }
 
-/// A COMMIT of a file that isn't open: it is done at once. Takes memory.
+/// A COMMIT of a file that isn't open: it is done at once, or `NFS3ERR_IO` where bytes below its limit may be lost. Takes memory.
 pub fn commit_closed(
     conn: u32,
     call: CommitCall,
+    lost: Option<ClosedHull>,
     tracker: &mut RequestTracker,
 ) -> Result<String, AllocError>
     ensures ok { (s : Store) → IfOk result (StepsTo (Unit {0}) (CommitFile conn call)
-        (scene (part_state None tracker.old) s) (scene (part_state None tracker.new) s)) }
+        (scene (part_state lost None tracker.old) s) (scene (part_state lost None tracker.new) s)) }
     ensures err { (s : Store) → OnErr result (IsActCut (Unit {0}) (CommitFile conn call)
-        (scene (part_state None tracker.old) s) (scene (part_state None tracker.new) s)) }
+        (scene (part_state lost None tracker.old) s) (scene (part_state lost None tracker.new) s)) }
     ensures event { tracker.new.noted.event ≡ tracker.old.noted.event }
-    ensures settings { tracker.new.settings ≡ tracker.old.settings }
+    ensures terms { SameTerms tracker.old tracker.new }
 {
     let ticket = tracker.begin_request(conn, call.xid)?;
-    tracker.send(Answer::committed(ticket))
+    tracker.send(closed_answer(ticket, lost, call.limit()))
 }
 
 /// A WRITE for which there was no memory, whether its file is open or not. Takes memory for the reply.
@@ -299,12 +302,12 @@ pub fn refuse_write(
     call: WriteCall,
     tracker: &mut RequestTracker,
 ) -> Result<String, AllocError>
-    ensures ok { (o : Option CellState) (s : Store) → IfOk result (StepsTo (Unit {0}) (WriteFile conn call)
-        (scene (part_state o tracker.old) s) (scene (part_state o tracker.new) s)) }
-    ensures err { (o : Option CellState) (s : Store) → OnErr result (IsActCut (Unit {0}) (WriteFile conn call)
-        (scene (part_state o tracker.old) s) (scene (part_state o tracker.new) s)) }
+    ensures ok { (o : Option CellState) (lost : Option ClosedHull) (s : Store) → IfOk result (StepsTo (Unit {0}) (WriteFile conn call)
+        (scene (part_state lost o tracker.old) s) (scene (part_state lost o tracker.new) s)) }
+    ensures err { (o : Option CellState) (lost : Option ClosedHull) (s : Store) → OnErr result (IsActCut (Unit {0}) (WriteFile conn call)
+        (scene (part_state lost o tracker.old) s) (scene (part_state lost o tracker.new) s)) }
     ensures event { tracker.new.noted.event ≡ tracker.old.noted.event }
-    ensures settings { tracker.new.settings ≡ tracker.old.settings }
+    ensures terms { SameTerms tracker.old tracker.new }
 {
     tracker.refuse_request(conn, call.xid)
 }
@@ -323,6 +326,7 @@ pub struct FirstWrite<F: AppendFile> {
 fn open_and_write<C: Cluster>(
     file: u64,
     request: WriteReq,
+    lost: Option<ClosedHull>,
     tracker: &mut RequestTracker,
     cluster: &mut C,
 ) -> FirstWrite<C::File>
@@ -332,7 +336,7 @@ fn open_and_write<C: Cluster>(
     requires few { length request.bytes ≤ 1048576 }
     requires below { request.offset + length request.bytes < 2 ^ 63 }
     ensures tries { Tries C.File.tells (request_result (λ w t. write_act_result w.opened w (write_request request) t))
-        (scene_of file C.Cluster None tracker.old cluster.old) (scene_of file C.Cluster result.cell tracker.new cluster.new)
+        (scene_of file C.Cluster lost None tracker.old cluster.old) (scene_of file C.Cluster lost result.cell tracker.new cluster.new)
         (λ x. IfOk result.text (λ t. string_bytes t ≡ x)) }
     ensures ready { IsReadyIn tracker.old.settings.limits file result.cell }
     ensures home_after { IsBodyHome C.File.tells (C.at cluster.new (body_id file)) result.cell }
@@ -340,8 +344,15 @@ fn open_and_write<C: Cluster>(
     ensures losses { C.File.tells → C.losses cluster.new (body_id file) ≡ C.losses cluster.old (body_id file) }
     ensures numbers { SameNumbers tracker.old tracker.new }
 {
-    let limits = tracker.config.limits;
-    let mut cell = match open_file(tracker.alloc, file, limits, cluster, &mut tracker.trace) {
+    let mut cell = match open_file(
+        tracker.alloc,
+        file,
+        tracker.config.limits,
+        opening_hull(lost),
+        tracker.moment,
+        cluster,
+        &mut tracker.trace,
+    ) {
         Ok(cell) => cell,
         Err(Failure::Store) => return FirstWrite {
             cell: None,
@@ -370,11 +381,12 @@ fn open_and_write<C: Cluster>(
     }
 }
 
-/// A WRITE of a file that isn't open: it is opened. Takes memory.
+/// A WRITE of a file that isn't open: it is opened, with what was lost of it when it was closed. Takes memory.
 pub fn first_write<C: Cluster>(
     conn: u32,
     file: u64,
     call: WriteCall,
+    lost: Option<ClosedHull>,
     tracker: &mut RequestTracker,
     cluster: &mut C,
 ) -> FirstWrite<C::File>
@@ -382,15 +394,15 @@ pub fn first_write<C: Cluster>(
     requires few { length call.content ≤ 1048576 }
     requires below { call.offset + length call.content < 2 ^ 63 }
     ensures ok { IfOk result.text (StepsTo C.File.tells (WriteFile conn call)
-        (scene_of file C.Cluster None tracker.old cluster.old) (scene_of file C.Cluster result.cell tracker.new cluster.new)) }
+        (scene_of file C.Cluster lost None tracker.old cluster.old) (scene_of file C.Cluster lost result.cell tracker.new cluster.new)) }
     ensures err { OnErr result.text (IsActCut C.File.tells (WriteFile conn call)
-        (scene_of file C.Cluster None tracker.old cluster.old) (scene_of file C.Cluster result.cell tracker.new cluster.new)) }
+        (scene_of file C.Cluster lost None tracker.old cluster.old) (scene_of file C.Cluster lost result.cell tracker.new cluster.new)) }
     ensures ready { IsReadyIn tracker.old.settings.limits file result.cell }
     ensures home_after { IsBodyHome C.File.tells (C.at cluster.new (body_id file)) result.cell }
     ensures others { OthersStay C.Cluster C.File.tells file cluster.old cluster.new }
     ensures losses { C.File.tells → C.losses cluster.new (body_id file) ≡ C.losses cluster.old (body_id file) }
     ensures event { tracker.new.noted.event ≡ tracker.old.noted.event }
-    ensures settings { tracker.new.settings ≡ tracker.old.settings }
+    ensures terms { SameTerms tracker.old tracker.new }
 {
     match tracker.begin_request(conn, call.xid) {
         Ok(ticket) => {
@@ -399,9 +411,9 @@ pub fn first_write<C: Cluster>(
                 stable: call.stable,
                 bytes: call.content,
                 ticket,
-                moment: 0,
+                moment: tracker.moment(),
             };
-            open_and_write(file, request, tracker, cluster)
+            open_and_write(file, request, lost, tracker, cluster)
         }
         Err(error) => FirstWrite {
             cell: None,
@@ -421,8 +433,8 @@ fn read_stored<C: Cluster>(
     requires room { 2 ≤ tracker.old.noted.room }
     requires last { ticket.number ≡ tracker.old.desk.last }
     requires home { IsBodyHome C.File.tells (C.at cluster.old (body_id file)) None }
-    ensures tries { Tries C.File.tells (request_result (read_action call))
-        (scene_of file C.Cluster None tracker.old cluster.old) (scene_of file C.Cluster None tracker.new cluster.new)
+    ensures tries { (lost : Option ClosedHull) → Tries C.File.tells (request_result (read_action call))
+        (scene_of file C.Cluster lost None tracker.old cluster.old) (scene_of file C.Cluster lost None tracker.new cluster.new)
         (λ x. IfOk result (λ t. string_bytes t ≡ x)) }
     ensures same { C.File.tells → (q : ObjectId) → C.at cluster.new q ≡ C.at cluster.old q }
     ensures losses { C.File.tells → (q : ObjectId) → C.losses cluster.new q ≡ C.losses cluster.old q }
@@ -453,14 +465,14 @@ pub fn read_closed<C: Cluster>(
     cluster: &mut C,
 ) -> Result<String, AllocError>
     requires home { IsBodyHome C.File.tells (C.at cluster.old (body_id file)) None }
-    ensures ok { IfOk result (StepsTo C.File.tells (ReadFile conn call)
-        (scene_of file C.Cluster None tracker.old cluster.old) (scene_of file C.Cluster None tracker.new cluster.new)) }
-    ensures err { OnErr result (IsActCut C.File.tells (ReadFile conn call)
-        (scene_of file C.Cluster None tracker.old cluster.old) (scene_of file C.Cluster None tracker.new cluster.new)) }
+    ensures ok { (lost : Option ClosedHull) → IfOk result (StepsTo C.File.tells (ReadFile conn call)
+        (scene_of file C.Cluster lost None tracker.old cluster.old) (scene_of file C.Cluster lost None tracker.new cluster.new)) }
+    ensures err { (lost : Option ClosedHull) → OnErr result (IsActCut C.File.tells (ReadFile conn call)
+        (scene_of file C.Cluster lost None tracker.old cluster.old) (scene_of file C.Cluster lost None tracker.new cluster.new)) }
     ensures same { C.File.tells → (q : ObjectId) → C.at cluster.new q ≡ C.at cluster.old q }
     ensures losses { C.File.tells → (q : ObjectId) → C.losses cluster.new q ≡ C.losses cluster.old q }
     ensures event { tracker.new.noted.event ≡ tracker.old.noted.event }
-    ensures settings { tracker.new.settings ≡ tracker.old.settings }
+    ensures terms { SameTerms tracker.old tracker.new }
 {
     let ticket = tracker.begin_request(conn, call.xid)?;
     read_stored(file, call, ticket, tracker, cluster)
@@ -473,15 +485,15 @@ pub fn create_body<C: Cluster>(
     cluster: &mut C,
 ) -> StepResult
     requires safe { IsBodySafe C.File.tells (C.at cluster.old (body_id file)) None }
-    ensures step { IsActed C.File.tells result CreateFile
-        (scene_of file C.Cluster None tracker.old cluster.old) (scene_of file C.Cluster None tracker.new cluster.new) }
+    ensures step { (lost : Option ClosedHull) → IsActed C.File.tells result CreateFile
+        (scene_of file C.Cluster lost None tracker.old cluster.old) (scene_of file C.Cluster lost None tracker.new cluster.new) }
     ensures home { IsText result → IsBodyHome C.File.tells (C.at cluster.new (body_id file)) None }
     ensures safe_after { IsBodySafe C.File.tells (C.at cluster.new (body_id file)) None }
     ensures others { OthersStay C.Cluster C.File.tells file cluster.old cluster.new }
     ensures losses { C.File.tells → C.at cluster.old (body_id file) ≢ Missing
         → C.losses cluster.new (body_id file) ≡ C.losses cluster.old (body_id file) }
     ensures event { tracker.new.noted.event ≡ tracker.old.noted.event }
-    ensures settings { tracker.new.settings ≡ tracker.old.settings }
+    ensures terms { SameTerms tracker.old tracker.new }
     ensures later { C.count cluster.old ≤ C.count cluster.new }
     ensures cause { result ≡ StepResult.StoreFault → Rose (C.count cluster.old) (C.count cluster.new) }
 {

@@ -1,5 +1,5 @@
-// The requests that wait for an answer, the outcomes that were noted, and the settings.
-ghost use Rattle.std.specs.Prelude.{◌≡◌, ◌<◌, ◌+◌, ◌-◌, ◌^◌, ◌∷◌, [], IfOk, OnErr, string_bytes, false, Option};
+// The requests that wait for an answer, the outcomes that were noted, the settings, and the moment.
+ghost use Rattle.std.specs.Prelude.{◌≡◌, ◌≤◌, ◌<◌, ◌+◌, ◌-◌, ◌^◌, ◌∷◌, [], IfOk, OnOk, OnErr, string_bytes, false, Option};
 ghost use Rattle.gw_model.specs.Views.{next_event};
 ghost use Rattle.gw_config.specs.Ranges.{AreInRange};
 ghost use Rattle.gw_config.specs.Seen.{settings_in};
@@ -7,10 +7,12 @@ ghost use Rattle.tickets.specs.Answers.{IsPlain, answer_of};
 ghost use Rattle.tickets.specs.Desk.{with_answered, waiting_ticket};
 ghost use Rattle.admit.specs.Calls.{verdict_answers};
 ghost use Rattle.file_cell.specs.State.{CellState};
-ghost use Rattle.file_calls.specs.Acts.{Act, IsRequest, Reply, CloseConnection, HangUp};
+ghost use Rattle.file_calls.specs.Acts.{Act, IsRequest, Reply, CloseConnection, HangUp, BeginTick};
 ghost use Rattle.file_calls.specs.Part.{send_result, text_to};
+ghost use Rattle.file_calls.specs.Terms.{later_moment};
 ghost use Rattle.file_calls.specs.Outside.{Store, new_tracker, part_state, scene, without_outcomes, StepsTo, IsStep, IsActCut};
-ghost use Rattle.file_calls.specs.PartSteps.{IsAsked, IsPlainVerdict, SameButRoom, refusal_answers, with_refusal, with_sent, with_verdict};
+ghost use Rattle.file_calls.specs.declared.hull.ClosedHull.{ClosedHull};
+ghost use Rattle.file_calls.specs.PartSteps.{IsAsked, IsPlainVerdict, SameButRoom, SameTerms, refusal_answers, with_refusal, with_sent, with_verdict};
 
 use crate::answers::{send_one, send_verdict};
 use crate::reply::{closed_text, said_text};
@@ -24,13 +26,15 @@ use tickets::{Answer, Body, ReplyDesk, Sent, Ticket};
 /// The notes that one act may make.
 pub const NOTES: usize = 9;
 
-/// The requests that wait for an answer, the outcomes that were noted, and the settings of the gateway.
+/// The requests that wait for an answer, the outcomes that were noted, the settings of the gateway, and the moment.
 #[derive(Drop)]
 pub struct RequestTracker {
     pub(crate) alloc: Global,
     pub(crate) desk: ReplyDesk,
     pub(crate) trace: Trace,
     pub(crate) config: Config,
+    // In milliseconds.
+    pub(crate) moment: u64,
 }
 
 impl Model for RequestTracker {
@@ -41,14 +45,14 @@ impl Model for RequestTracker {
 
     ghost Value = { TrackerState };
 
-    ghost view = { λ t. record { desk = t.desk; noted = t.trace; settings = settings_in t.config } };
+    ghost view = { λ t. record { desk = t.desk; noted = t.trace; settings = settings_in t.config; moment = t.moment } };
 
     // Each request of the event has a ticket.
     ghost invariant = { λ t. (t.trace.request ≤ t.desk.last) × AreInRange (settings_in t.config) };
 }
 
 impl RequestTracker {
-    /// Nobody waits, and nothing was noted. The settings are in their ranges, as `Config::from_toml` gives them.
+    /// Nobody waits, nothing was noted, and the moment is 0. The settings are in their ranges, as `Config::from_toml` gives them.
     pub fn new(alloc: Global, config: Config) -> RequestTracker
         requires in_range { AreInRange (settings_in config) }
         ensures { result ≡ new_tracker (settings_in config) }
@@ -58,6 +62,7 @@ impl RequestTracker {
             desk: ReplyDesk::new(alloc),
             trace: Trace::new(alloc),
             config,
+            moment: 0,
         }
     }
 
@@ -75,6 +80,35 @@ impl RequestTracker {
         self.trace.begin_event();
     }
 
+    /// An event: so many milliseconds are gone. The moment stays at the greatest u64.
+    pub fn begin_tick(&mut self, milliseconds: u32)
+        requires few { self.old.noted.event < 2 ^ 64 - 1 }
+        ensures step { (o : Option CellState) (lost : Option ClosedHull) (s : Store) → IsStep (Unit {0}) (BeginTick milliseconds)
+            (scene (part_state lost o self.old) s) (scene (part_state lost o self.new) s) [] false }
+        ensures is { self.new ≡ record self.old {
+          noted = next_event self.old.noted;
+          moment = later_moment milliseconds self.old.moment;
+        } }
+    {
+        self.trace.begin_event();
+        self.moment = self.moment.saturating_add(u64::from(milliseconds));
+    }
+
+    /// The moment, in milliseconds.
+    pub(crate) fn moment(&self) -> u64
+        ensures { result ≡ self.now.moment }
+    {
+        self.moment
+    }
+
+    /// Room for so many notes. Takes memory.
+    pub fn reserve(&mut self, notes: usize) -> Result<(), AllocError>
+        ensures ok { OnOk result (notes ≤ self.new.noted.room) }
+        ensures rest { self.new ≡ record self.old { noted = record self.old.noted { room = self.new.noted.room } } }
+    {
+        self.trace.reserve(notes).map_err(|_| AllocError)
+    }
+
     /// Forgets the outcomes that were noted.
     pub fn clear(&mut self)
         ensures { self.new ≡ without_outcomes self.old self.new.noted.room }
@@ -84,11 +118,11 @@ impl RequestTracker {
 
     /// A request begins: it gets its number and its ticket. Takes memory.
     pub(crate) fn begin_request(&mut self, conn: u32, xid: u32) -> Result<Ticket, AllocError>
-        ensures ok { (o : Option CellState)
-            → IfOk result (λ ticket. IsAsked conn xid NOTES ticket (part_state o self.old) (part_state o self.new)) }
-        ensures err { (o : Option CellState) → OnErr result (SameButRoom (part_state o self.old) (part_state o self.new)) }
+        ensures ok { (o : Option CellState) (lost : Option ClosedHull)
+            → IfOk result (λ ticket. IsAsked conn xid NOTES ticket (part_state lost o self.old) (part_state lost o self.new)) }
+        ensures err { (o : Option CellState) (lost : Option ClosedHull) → OnErr result (SameButRoom (part_state lost o self.old) (part_state lost o self.new)) }
         ensures event { self.new.noted.event ≡ self.old.noted.event }
-        ensures settings { self.new.settings ≡ self.old.settings }
+        ensures terms { SameTerms self.old self.new }
     {
         if self.trace.reserve(NOTES).is_err() {
             return Err(AllocError);
@@ -147,12 +181,12 @@ impl RequestTracker {
 
     /// Memory was refused while a request was read. Takes memory for the reply.
     pub fn refuse_request(&mut self, conn: u32, xid: u32) -> Result<String, AllocError>
-        ensures ok { (act : Act) → IsRequest act conn xid → (o : Option CellState) (s : Store)
-            → IfOk result (StepsTo (Unit {0}) act (scene (part_state o self.old) s) (scene (part_state o self.new) s)) }
-        ensures err { (act : Act) → IsRequest act conn xid → (o : Option CellState) (s : Store)
-            → OnErr result (IsActCut (Unit {0}) act (scene (part_state o self.old) s) (scene (part_state o self.new) s)) }
+        ensures ok { (act : Act) → IsRequest act conn xid → (o : Option CellState) (lost : Option ClosedHull) (s : Store)
+            → IfOk result (StepsTo (Unit {0}) act (scene (part_state lost o self.old) s) (scene (part_state lost o self.new) s)) }
+        ensures err { (act : Act) → IsRequest act conn xid → (o : Option CellState) (lost : Option ClosedHull) (s : Store)
+            → OnErr result (IsActCut (Unit {0}) act (scene (part_state lost o self.old) s) (scene (part_state lost o self.new) s)) }
         ensures event { self.new.noted.event ≡ self.old.noted.event }
-        ensures settings { self.new.settings ≡ self.old.settings }
+        ensures terms { SameTerms self.old self.new }
     {
         let ticket = self.begin_request(conn, xid)?;
         self.refuse(ticket)
@@ -160,12 +194,12 @@ impl RequestTracker {
 
     /// A request is answered at once. Takes memory.
     pub fn reply_now(&mut self, conn: u32, xid: u32, reply: &[u8]) -> Result<String, AllocError>
-        ensures ok { (o : Option CellState) (s : Store) → IfOk result (StepsTo (Unit {0}) (Reply conn xid reply.now)
-            (scene (part_state o self.old) s) (scene (part_state o self.new) s)) }
-        ensures err { (o : Option CellState) (s : Store) → OnErr result (IsActCut (Unit {0}) (Reply conn xid reply.now)
-            (scene (part_state o self.old) s) (scene (part_state o self.new) s)) }
+        ensures ok { (o : Option CellState) (lost : Option ClosedHull) (s : Store) → IfOk result (StepsTo (Unit {0}) (Reply conn xid reply.now)
+            (scene (part_state lost o self.old) s) (scene (part_state lost o self.new) s)) }
+        ensures err { (o : Option CellState) (lost : Option ClosedHull) (s : Store) → OnErr result (IsActCut (Unit {0}) (Reply conn xid reply.now)
+            (scene (part_state lost o self.old) s) (scene (part_state lost o self.new) s)) }
         ensures event { self.new.noted.event ≡ self.old.noted.event }
-        ensures settings { self.new.settings ≡ self.old.settings }
+        ensures terms { SameTerms self.old self.new }
     {
         let ticket = self.begin_request(conn, xid)?;
         let Ok(text) = Vec::from_slice(self.alloc, reply) else {
@@ -176,12 +210,12 @@ impl RequestTracker {
 
     /// A connection ends: none of its requests is answered any more. Takes memory.
     pub fn close_connection(&mut self, conn: u32) -> Result<String, AllocError>
-        ensures ok { (o : Option CellState) (s : Store) → IfOk result (StepsTo (Unit {0}) (CloseConnection conn)
-            (scene (part_state o self.old) s) (scene (part_state o self.new) s)) }
-        ensures err { (o : Option CellState) (s : Store) → OnErr result (IsActCut (Unit {0}) (CloseConnection conn)
-            (scene (part_state o self.old) s) (scene (part_state o self.new) s)) }
+        ensures ok { (o : Option CellState) (lost : Option ClosedHull) (s : Store) → IfOk result (StepsTo (Unit {0}) (CloseConnection conn)
+            (scene (part_state lost o self.old) s) (scene (part_state lost o self.new) s)) }
+        ensures err { (o : Option CellState) (lost : Option ClosedHull) (s : Store) → OnErr result (IsActCut (Unit {0}) (CloseConnection conn)
+            (scene (part_state lost o self.old) s) (scene (part_state lost o self.new) s)) }
         ensures event { self.new.noted.event ≡ self.old.noted.event }
-        ensures settings { self.new.settings ≡ self.old.settings }
+        ensures terms { SameTerms self.old self.new }
     {
         self.desk.cancel_conn(conn);
         closed_text(self.alloc, conn)
@@ -190,10 +224,10 @@ impl RequestTracker {
     /// An event: a connection hangs up. None of its requests is answered any more, and nothing is written.
     pub fn hang_up(&mut self, conn: u32)
         requires few { self.old.noted.event < 2 ^ 64 - 1 }
-        ensures step { (o : Option CellState) (s : Store) → IsStep (Unit {0}) (HangUp conn)
-            (scene (part_state o self.old) s) (scene (part_state o self.new) s) [] false }
+        ensures step { (o : Option CellState) (lost : Option ClosedHull) (s : Store) → IsStep (Unit {0}) (HangUp conn)
+            (scene (part_state lost o self.old) s) (scene (part_state lost o self.new) s) [] false }
         ensures event { self.new.noted.event ≡ self.old.noted.event + 1 }
-        ensures settings { self.new.settings ≡ self.old.settings }
+        ensures terms { SameTerms self.old self.new }
     {
         self.trace.begin_event();
         self.desk.cancel_conn(conn);

@@ -8,7 +8,7 @@ use Rattle.gw_model.specs.Views.{TraceState}
 use Rattle.writeback.specs.Steps.{with_calls}
 use Rattle.gw_config.specs.Seen.{settings_in}
 use Rattle.file_calls.specs.PartSteps.{noted_after, part_with_refusal}
-use Rattle.file_calls.specs.Opening.{FailsClosed}
+use Rattle.file_calls.specs.Opening.{FailsClosed, IsOpened}
 use Rattle.file_calls.specs.Outside.{PartState, TrackerState, part_state, store_view}
 use Rattle.file_calls.specs.declared.opening.Failure.TheVariants.{Memory}
 use Rattle.file_calls.proofs.Counts.{counted_back}
@@ -21,12 +21,12 @@ returns-in-Err-Store-clause-tries g c =
     let e = rw c.in-Err-Store.field-0-is at c.in-Err-Store.ensures.failed in
     let a = c.not_written.ensures in
     let last = rw (← c.tracker.view_is) at c.requires.last in
-    let mid : PartState = record { opened = None; desk = c.tracker.inside.desk; noted = c.tracker.inside.trace; settings = settings_in c.tracker.inside.config } in
+    let mid : PartState = record { opened = None; desk = c.tracker.inside.desk; noted = c.tracker.inside.trace; terms = record { settings = settings_in c.tracker.inside.config; moment = c.tracker.inside.moment; lost = c.args.lost } } in
     let s = store_view c.args.file g.C.Cluster c.args.cluster.now in
     let s' = store_view c.args.file g.C.Cluster c.open_file.new.cluster in
     rw (← c.tracker.view_is) (record {
       text = _;
-      step = of_answer g.C.File.AppendFile.tells _ mid (noting c.open_file.new.trace mid) _ s s' c.not_written.result _ _ (ap (λ t. t.number) a.ticket ∙ last) (ap body_of a.body) (ap (part_state None) c.send.ensures.kept)
+      step = of_answer g.C.File.AppendFile.tells _ mid (noting c.open_file.new.trace mid) _ s s' c.not_written.result _ _ (ap (λ t. t.number) a.ticket ∙ last) (ap body_of a.body) (ap (part_state c.args.lost None) c.send.ensures.kept)
           (unopened g.C.File.AppendFile.tells mid s s' _ (write_request c.args.request) refl last e);
       is = c.send.ensures.text;
     })
@@ -35,12 +35,12 @@ pub returns-in-Err-Memory-clause-tries : goal.returns-in-Err-Memory-clause-tries
 returns-in-Err-Memory-clause-tries g c =
     let e = rw c.in-Err-Memory.field-0-is at c.in-Err-Memory.ensures.failed in
     let last = rw (← c.tracker.view_is) at c.requires.last in
-    let mid : PartState = record { opened = None; desk = c.tracker.inside.desk; noted = c.tracker.inside.trace; settings = settings_in c.tracker.inside.config } in
+    let mid : PartState = record { opened = None; desk = c.tracker.inside.desk; noted = c.tracker.inside.trace; terms = record { settings = settings_in c.tracker.inside.config; moment = c.tracker.inside.moment; lost = c.args.lost } } in
     let s = store_view c.args.file g.C.Cluster c.args.cluster.now in
     let s' = store_view c.args.file g.C.Cluster c.open_file.new.cluster in
     rw (← c.tracker.view_is) (record {
       text = _;
-      step = unwritten g.C.File.AppendFile.tells mid s s' _ (write_request c.args.request) refl last _ e (ap (part_state None) c.refuse.ensures.kept ∙ ap (λ k. part_with_refusal k (noting c.open_file.new.trace mid)) last);
+      step = unwritten g.C.File.AppendFile.tells mid s s' _ (write_request c.args.request) refl last _ e (ap (part_state c.args.lost None) c.refuse.ensures.kept ∙ ap (λ k. part_with_refusal k (noting c.open_file.new.trace mid)) last);
       is = rw last at c.refuse.ensures.text;
     })
 
@@ -49,7 +49,7 @@ returns-in-NoMemory-clause-tries g c =
     let o = c.in-Ok.ensures.opened in
     let t = c.in-NoMemory.ensures.step in
     let last = rw (← c.tracker.view_is) at c.requires.last in
-    let mid : PartState = record { opened = None; desk = c.tracker.inside.desk; noted = c.tracker.inside.trace; settings = settings_in c.tracker.inside.config } in
+    let mid : PartState = record { opened = None; desk = c.tracker.inside.desk; noted = c.tracker.inside.trace; terms = record { settings = settings_in c.tracker.inside.config; moment = c.tracker.inside.moment; lost = c.args.lost } } in
     let s = store_view c.args.file g.C.Cluster c.args.cluster.now in
     let s' = store_view c.args.file g.C.Cluster c.give_file.new.self in
     let number = ap (λ t. t.number) t.0 ∙ last in
@@ -67,7 +67,7 @@ returns-in-NoMemory-clause-tries g c =
     } in
     rw (← c.tracker.view_is) (record {
       text = _;
-      step = unwritten g.C.File.AppendFile.tells mid s s' _ (write_request c.args.request) refl last _ e (ap (part_state None) c.refuse-in-NoMemory.ensures.kept ∙ ap (λ k. part_with_refusal k (noting c.open_file.new.trace mid)) number);
+      step = unwritten g.C.File.AppendFile.tells mid s s' _ (write_request c.args.request) refl last _ e (ap (part_state c.args.lost None) c.refuse-in-NoMemory.ensures.kept ∙ ap (λ k. part_with_refusal k (noting c.open_file.new.trace mid)) number);
       is = rw number at c.refuse-in-NoMemory.ensures.text;
     })
 
@@ -80,11 +80,13 @@ returns-in-NoMemory-clause-losses g c =
 
 pub returns-in_default : goal.returns-in_default
 returns-in_default g c =
-    let o = c.in-Ok.ensures.opened in
+    let s = store_view c.args.file g.C.Cluster c.args.cluster.now in
+    let s' = store_view c.args.file g.C.Cluster c.open_file.new.cluster in
+    let o = subst (λ h. IsOpened g.C.File.AppendFile.tells c.tracker.inside.config.limits h c.tracker.inside.moment c.args.file c.in-Ok.cell s s' c.tracker.inside.trace c.open_file.new.trace) c.opening_hull.ensures c.in-Ok.ensures.opened in
     let v = c.write.result in
     let t = c.write.ensures.step in
     let last = rw (← c.tracker.view_is) at c.requires.last in
-    let mid : PartState = record { opened = None; desk = c.tracker.inside.desk; noted = c.tracker.inside.trace; settings = settings_in c.tracker.inside.config } in
+    let mid : PartState = record { opened = None; desk = c.tracker.inside.desk; noted = c.tracker.inside.trace; terms = record { settings = settings_in c.tracker.inside.config; moment = c.tracker.inside.moment; lost = c.args.lost } } in
     let s = store_view c.args.file g.C.Cluster c.args.cluster.now in
     let s' = store_view c.args.file g.C.Cluster c.open_file.new.cluster in
     let e = not_want v c.in_default.not-NoMemory in
@@ -102,5 +104,5 @@ returns-in_default g c =
       home_after = λ told. o.out told ∙ ap (λ x. Lent x.mark) (sym file);
       others = c.in-Ok.ensures.others;
       losses = c.in-Ok.ensures.losses;
-      numbers = (ap (λ (x : TraceState). x.event) noted ∙ ap (λ (k : TrackerState). k.noted.event) c.tracker.view_is, ap (λ (x : TraceState). x.request) noted ∙ ap (λ (k : TrackerState). k.noted.request) c.tracker.view_is, ap (λ (k : TrackerState). k.settings) kept ∙ ap (λ (k : TrackerState). k.settings) c.tracker.view_is);
+      numbers = (ap (λ (x : TraceState). x.event) noted ∙ ap (λ (k : TrackerState). k.noted.event) c.tracker.view_is, ap (λ (x : TraceState). x.request) noted ∙ ap (λ (k : TrackerState). k.noted.request) c.tracker.view_is, (ap (λ (k : TrackerState). k.settings) kept ∙ ap (λ (k : TrackerState). k.settings) c.tracker.view_is, ap (λ (k : TrackerState). k.moment) kept ∙ ap (λ (k : TrackerState). k.moment) c.tracker.view_is));
     }

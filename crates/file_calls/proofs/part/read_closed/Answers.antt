@@ -5,24 +5,24 @@ use Rattle.file_calls.proofs.Results.{always_err}
 use Rattle.file_calls.proofs.part.read_closed.Goals as goal
 
 pub returns-in_err-ticket-clause-err : goal.returns-in_err-ticket-clause-err
-returns-in_err-ticket-clause-err g c = always_err c.from_residual.result (cut_room g.C.File.AppendFile.tells _ _ _ (store_view c.args.file g.C.Cluster c.args.cluster.now) (c.in_err-ticket.ensures.err None))
+returns-in_err-ticket-clause-err g c = λ lost. always_err c.from_residual.result (cut_room g.C.File.AppendFile.tells _ _ _ (store_view c.args.file g.C.Cluster c.args.cluster.now) (c.in_err-ticket.ensures.err None lost))
 
 pub read_stored-requires-clause-room : goal.read_stored-requires-clause-room
-read_stored-requires-clause-room g c = let r = (c.in_ok-ticket.ensures.ok None).room in omega (arith, r)
+read_stored-requires-clause-room g c = let r = (c.in_ok-ticket.ensures.ok None None).room in omega (arith, r)
 
 pub read_stored-requires-clause-last : goal.read_stored-requires-clause-last
-read_stored-requires-clause-last g c = last_ticket c.args.conn c.args.call.xid 9 c.in_ok-ticket.ticket _ _ (c.in_ok-ticket.ensures.ok None)
+read_stored-requires-clause-last g c = last_ticket c.args.conn c.args.call.xid 9 c.in_ok-ticket.ticket _ _ (c.in_ok-ticket.ensures.ok None None)
 
 pub returns-clause-ok : goal.returns-clause-ok
-returns-clause-ok g c =
+returns-clause-ok g c = λ lost.
     let s = store_view c.args.file g.C.Cluster c.args.cluster.now in
-    let t = c.read_stored.ensures.tries in
+    let t = c.read_stored.ensures.tries lost in
     step_ok string_bytes c.read_stored.result _ _ _ _ _
-    (stored_step g.C.File.AppendFile.tells c.args.conn 9 c.in_ok-ticket.ticket (part_state None c.args.tracker.now) (part_state None c.begin_request.new.self) s c.args.call (c.in_ok-ticket.ensures.ok None) _ _ t.step) t.is
+    (stored_step g.C.File.AppendFile.tells c.args.conn 9 c.in_ok-ticket.ticket (part_state lost None c.args.tracker.now) (part_state lost None c.begin_request.new.self) s c.args.call (c.in_ok-ticket.ensures.ok None lost) _ _ t.step) t.is
 
 pub returns-clause-err : goal.returns-clause-err
-returns-clause-err g c =
+returns-clause-err g c = λ lost.
     let s = store_view c.args.file g.C.Cluster c.args.cluster.now in
-    let t = c.read_stored.ensures.tries in
+    let t = c.read_stored.ensures.tries lost in
     step_err c.read_stored.result _ _ _ _ _
-    (stored_step g.C.File.AppendFile.tells c.args.conn 9 c.in_ok-ticket.ticket (part_state None c.args.tracker.now) (part_state None c.begin_request.new.self) s c.args.call (c.in_ok-ticket.ensures.ok None) _ _ t.step)
+    (stored_step g.C.File.AppendFile.tells c.args.conn 9 c.in_ok-ticket.ticket (part_state lost None c.args.tracker.now) (part_state lost None c.begin_request.new.self) s c.args.call (c.in_ok-ticket.ensures.ok None lost) _ _ t.step)

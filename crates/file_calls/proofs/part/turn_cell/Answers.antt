@@ -8,15 +8,15 @@ use Rattle.file_calls.proofs.PartTurns.{turn_acts, begun_cut, all_text, sent_des
 use Rattle.file_calls.proofs.part.turn_cell.Goals as goal
 
 pub returns-then-is_err-clause-err : goal.returns-then-is_err-clause-err
-returns-then-is_err-clause-err g c = λ s.
-    let old : PartState = record { opened = Some c.args.cell.now; desk = c.tracker.inside.desk; noted = c.tracker.inside.trace; settings = settings_in c.tracker.inside.config } in
+returns-then-is_err-clause-err g c = λ lost s.
+    let old : PartState = record { opened = Some c.args.cell.now; desk = c.tracker.inside.desk; noted = c.tracker.inside.trace; terms = record { settings = settings_in c.tracker.inside.config; moment = c.tracker.inside.moment; lost = lost } } in
     let begun : c.reserve.new.self ≡ record (next_event c.tracker.inside.trace) { room = c.reserve.new.self.room }
     = c.reserve.ensures.rest ∙ ap (λ (x : TraceState). let y : TraceState = record x { room = c.reserve.new.self.room } in y) c.begin_event.ensures in
     rw (← c.tracker.view_is) (begun_cut g.F.AppendFile.tells TurnFile old s c.reserve.new.self begun)
 
 pub returns-clause-ok : goal.returns-clause-ok
-returns-clause-ok g c = λ s.
-    let old : PartState = record { opened = Some c.args.cell.now; desk = c.tracker.inside.desk; noted = c.tracker.inside.trace; settings = settings_in c.tracker.inside.config } in
+returns-clause-ok g c = λ lost s.
+    let old : PartState = record { opened = Some c.args.cell.now; desk = c.tracker.inside.desk; noted = c.tracker.inside.trace; terms = record { settings = settings_in c.tracker.inside.config; moment = c.tracker.inside.moment; lost = lost } } in
     let few = rw (← c.tracker.view_is) at c.requires.few in
     let begun : c.reserve.new.self ≡ record (next_event c.tracker.inside.trace) { room = c.reserve.new.self.room }
     = c.reserve.ensures.rest ∙ ap (λ (x : TraceState). let y : TraceState = record x { room = c.reserve.new.self.room } in y) c.begin_event.ensures in
@@ -28,8 +28,8 @@ returns-clause-ok g c = λ s.
     (all_text string_bytes c.send_first-text.result c.send_left.result c.tracker.inside.desk c.send_first-text.new.desk a left c.send_first-text.ensures.desk c.send_first-text.ensures.text c.send_left.ensures.text c.send_left.ensures.err))
 
 pub returns-clause-err : goal.returns-clause-err
-returns-clause-err g c = λ s.
-    let old : PartState = record { opened = Some c.args.cell.now; desk = c.tracker.inside.desk; noted = c.tracker.inside.trace; settings = settings_in c.tracker.inside.config } in
+returns-clause-err g c = λ lost s.
+    let old : PartState = record { opened = Some c.args.cell.now; desk = c.tracker.inside.desk; noted = c.tracker.inside.trace; terms = record { settings = settings_in c.tracker.inside.config; moment = c.tracker.inside.moment; lost = lost } } in
     let few = rw (← c.tracker.view_is) at c.requires.few in
     let begun : c.reserve.new.self ≡ record (next_event c.tracker.inside.trace) { room = c.reserve.new.self.room }
     = c.reserve.ensures.rest ∙ ap (λ (x : TraceState). let y : TraceState = record x { room = c.reserve.new.self.room } in y) c.begin_event.ensures in

@@ -5,15 +5,15 @@ use Rattle.file_calls.proofs.Results.{always_err}
 use Rattle.file_calls.proofs.tracker.RequestTracker.refuse_request.Goals as goal
 
 pub returns-in_err-ticket-clause-err : goal.returns-in_err-ticket-clause-err
-returns-in_err-ticket-clause-err c = λ act is o s. always_err c.from_residual.result (cut_room (Unit {0}) act _ _ s (c.in_err-ticket.ensures.err o))
+returns-in_err-ticket-clause-err c = λ act is o lost s. always_err c.from_residual.result (cut_room (Unit {0}) act _ _ s (c.in_err-ticket.ensures.err o lost))
 
 pub returns-clause-ok : goal.returns-clause-ok
-returns-clause-ok c = λ act is o s.
-    step_ok string_bytes c.refuse.result _ _ _ _ _ (refuses (Unit {0}) act c.args.conn c.args.xid 9 c.in_ok-ticket.ticket (part_state o c.args.self.now) (part_state o c.begin_request.new.self) _ s (c.in_ok-ticket.ensures.ok o) is (ap (part_state o) c.refuse.ensures.kept)) c.refuse.ensures.text
+returns-clause-ok c = λ act is o lost s.
+    step_ok string_bytes c.refuse.result _ _ _ _ _ (refuses (Unit {0}) act c.args.conn c.args.xid 9 c.in_ok-ticket.ticket (part_state lost o c.args.self.now) (part_state lost o c.begin_request.new.self) _ s (c.in_ok-ticket.ensures.ok o lost) is (ap (part_state lost o) c.refuse.ensures.kept)) c.refuse.ensures.text
 
 pub returns-clause-err : goal.returns-clause-err
-returns-clause-err c = λ act is o s.
-    step_err c.refuse.result _ _ _ _ _ (refuses (Unit {0}) act c.args.conn c.args.xid 9 c.in_ok-ticket.ticket (part_state o c.args.self.now) (part_state o c.begin_request.new.self) _ s (c.in_ok-ticket.ensures.ok o) is (ap (part_state o) c.refuse.ensures.kept))
+returns-clause-err c = λ act is o lost s.
+    step_err c.refuse.result _ _ _ _ _ (refuses (Unit {0}) act c.args.conn c.args.xid 9 c.in_ok-ticket.ticket (part_state lost o c.args.self.now) (part_state lost o c.begin_request.new.self) _ s (c.in_ok-ticket.ensures.ok o lost) is (ap (part_state lost o) c.refuse.ensures.kept))
 
 pub refuse-requires : goal.refuse-requires
-refuse-requires c = let r = (c.in_ok-ticket.ensures.ok None).room in omega (arith, r)
+refuse-requires c = let r = (c.in_ok-ticket.ensures.ok None None).room in omega (arith, r)
