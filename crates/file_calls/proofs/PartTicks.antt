@@ -1,7 +1,6 @@
 -- What a tick leaves of an open file, and what is left of one that it closes.
-use Rattle.std.proofs.Common.{◌≡◌, ℕ, ◌-◌, ◌^◌, ◌<◌, Bool, true, false, List, [], ◌∷◌, ◌++◌, Option, Some, None, Result, Ok, Err, refl, sym, ◌∙◌, ap, subst, append-nil, arith}
-use Rattle.std.specs.Prelude.{◌&&◌, ◌||◌, not, if◌then◌else◌, IfOk, String, string_bytes}
-use Rattle.std.specs.Global.{Global}
+use Rattle.std.proofs.Common.{◌≡◌, ℕ, ◌-◌, ◌^◌, ◌<◌, Bool, true, false, List, [], ◌∷◌, ◌++◌, Option, Some, None, refl, sym, ◌∙◌, ap, subst, append-nil, arith}
+use Rattle.std.specs.Prelude.{◌&&◌, not, if◌then◌else◌}
 use Rattle.gw_outside.specs.Tally.{joined_tally}
 use Rattle.gw_model.specs.Ahead.{Outcomes, Outcome, Done, Failed, Good, Bad}
 use Rattle.gw_model.specs.Ending.{Closed, Closing, TickJudgement, Stays, GivesUp, Closes, History, closing_of, give_up_step, history_of, tick_judgement}
@@ -23,7 +22,7 @@ use Rattle.file_calls.specs.Counts.{Counts, IsCounted, file_counts, joined_count
 use Rattle.file_calls.specs.Outside.{CarriesCounts, PartState, Store, TrackerState, body_at, counts_at, part_state, scene, terms_at, ahead_at, IsOpen, LeavesScene, IsStep}
 use Rattle.file_calls.specs.Part.{Part, act_result, answers_result, file_closing_by, file_closing_result, file_step_result, judgement_at, next_part, send_result, tick_act_result, tick_result_by}
 use Rattle.file_calls.specs.Terms.{Terms, closed_hull, later_terms}
-use Rattle.file_calls.specs.Ticks.{IsClosedText, IsLeaving, IsStay}
+use Rattle.file_calls.specs.Ticks.{IsClosedText, IsLeaving}
 use Rattle.file_calls.specs.declared.hull.ClosedHull.{ClosedHull}
 use Rattle.file_calls.specs.OneReply.{Speaks}
 use Rattle.file_calls.proofs.OneReply.{speaks_answers, speaks_history, speaks_none}
@@ -169,11 +168,19 @@ module _ (tells : Type 0) (file : ℕ) (lost : Option ClosedHull) (c d : CellSta
         (record { part = record { opened = (k.file, refl, r.stands, sym r.stands.content); desk = h.desk; terms = h.terms }; text_is = refl; stop = refl; ahead = refl });
   })
 
--- a tick of a file that stays open, whose text was made or not
-pub stay_of : {E : Type 0} (tells : Type 0) (r : Result (String Global) E) (file : ℕ) (lost : Option ClosedHull) (s : Store) (c d : CellState) (t u : TrackerState) (text : List ℕ)
-    → IsStep tells (TickFile file) (scene (part_state lost (Some c) t) s) (scene (part_state lost (Some d) u) s) text false → IfOk r (λ x. string_bytes x ≡ text) → IsStay tells r file lost s c t d u
-stay_of tells (Ok x) file lost s c d t u text step is = subst (λ b. IsStep tells (TickFile file) (scene (part_state lost (Some c) t) s) (scene (part_state lost (Some d) u) s) b false) (sym is) step
-stay_of tells (Err e) file lost s c d t u text step is = (text, step)
+-- a file that isn't open
+pub passes_closed : (tells : Type 0) (file : ℕ) (lost : Option ClosedHull) (t : TrackerState) (s : Store) → IsStep tells (TickFile file) (scene (part_state lost None t) s) (scene (part_state lost None t) s) [] false
+unfolding next_part
+passes_closed tells file lost t s = record {
+  outcomes = [];
+  put = [];
+  notes = sym (append-nil t.noted.outcomes);
+  speaks = speaks_none t.desk;
+  passed = record { after = λ later fine. fine; puts = λ told. sym (append-nil (bytes_of s.body)); counts = counted_none s.counts };
+  next = λ told w h later fine.
+      subst (λ x. LeavesScene (scene (part_state lost None t) s) [] false later x) (sym (ap (λ o. tick_act_result file o w (ahead_at t.noted later)) h.opened.0))
+      (record { part = h; text_is = refl; stop = refl; ahead = refl });
+}
 
 -- a file that is to be closed
 pub is_leaving : (tells : Type 0) (c d : CellState) (t : TrackerState) → c.limits ≡ t.settings.limits → tick_judgement c.limits c.side (not (is_empty c.writer.owed)) t.moment ≡ Closes → Leaves tells [] (Good ∷ []) c.file d.file → ClosesFor tells synced.Done c d
@@ -193,11 +200,11 @@ carried_back os a before given now p carries =
     record { calls = carries.tally ∙ p.calls; fails = omega (arith, fails, more) }
 
 -- its parts were given back, and its history was told
-pub closed_step : {E : Type 0} (tells : Type 0) (file : ℕ) (lost after : Option ClosedHull) (c d : CellState) (t u : TrackerState) (s s' : Store) (made : Result (String Global) E) → IsLeaving tells c t d u
-    → after ≡ closed_hull d.side.held.hull d.writer.stored → (told : IsClosedText made file d) → (tells → bytes_of s'.body ≡ d.file.content) → CarriesCounts s.counts (file_counts d.file) s'.counts
-    → IsStep tells (TickFile file) (scene (part_state lost (Some c) t) s) (scene (part_state after None u) s') told.text false
+pub closed_step : (tells : Type 0) (file : ℕ) (lost after : Option ClosedHull) (c d : CellState) (t u : TrackerState) (s s' : Store) (text : List ℕ) → IsLeaving tells c t d u
+    → after ≡ closed_hull d.side.held.hull d.writer.stored → IsClosedText file d text → (tells → bytes_of s'.body ≡ d.file.content) → CarriesCounts s.counts (file_counts d.file) s'.counts
+    → IsStep tells (TickFile file) (scene (part_state lost (Some c) t) s) (scene (part_state after None u) s') text false
 unfolding next_part
-closed_step tells file lost after c d t u s s' made leaving kept history body carries = rw leaving.tracker (record {
+closed_step tells file lost after c d t u s s' text leaving kept history body carries = rw leaving.tracker (record {
   outcomes = Done ∷ [];
   put = [];
   notes = refl;
@@ -221,7 +228,7 @@ closed_step tells file lost after c d t u s s' made leaving kept history body ca
       ∙ ap (λ b. file_closing_by b file w k.file k.ahead) r.closed ∙ ap (λ y. act_result v (history_text file (history_of k.file Closed)) y) r.ahead in
       let now : closed_hull hull k.file.writer.stored ≡ after
       = sym (kept ∙ ap (λ (y : Side). closed_hull y.held.hull d.writer.stored) r.stands.side.is ∙ ap (λ (y : Writer). closed_hull hull y.stored) r.stands.writer) in
-      subst (λ y. LeavesScene (scene (part_state after None (record t { noted = with_calls (Good ∷ []) t.noted })) s') history.text false later y) (sym is)
+      subst (λ y. LeavesScene (scene (part_state after None (record t { noted = with_calls (Good ∷ []) t.noted })) s') text false later y) (sym is)
       (record {
         part = record {
           opened = (refl, sym (body told ∙ r.stands.content));

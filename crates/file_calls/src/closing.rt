@@ -7,7 +7,7 @@ ghost use Rattle.file_calls.specs.Counts.{file_counts};
 ghost use Rattle.file_calls.specs.Outside.{body_id, store_counts, CarriesCounts, IsBodyHome, OthersStay};
 ghost use Rattle.file_calls.specs.PartSteps.{SameSettings, SameTerms};
 ghost use Rattle.file_calls.specs.Terms.{closed_hull};
-ghost use Rattle.file_calls.specs.Ticks.{IsClosedText, IsVisit};
+ghost use Rattle.file_calls.specs.Ticks.{IsClosedText, IsVisit, Makes};
 
 use crate::answers::send_left;
 use crate::hull::ClosedHull;
@@ -134,7 +134,7 @@ pub fn end_cell<C: Cluster>(
     requires id { cell.id.0 ≡ file }
     requires out { C.File.tells → C.at cluster.old (body_id file) ≡ Lent cell.file.mark }
     ensures lost { result.lost ≡ closed_hull cell.side.held.hull cell.writer.stored }
-    ensures history { IsClosedText result.text file cell }
+    ensures history { Makes result.text (IsClosedText file cell) }
     ensures bytes { C.File.tells → bytes_of (C.at cluster.new (body_id file)) ≡ cell.file.content }
     ensures home { IsBodyHome C.File.tells (C.at cluster.new (body_id file)) None }
     ensures others { OthersStay C.Cluster C.File.tells file cluster.old cluster.new }

@@ -14,10 +14,11 @@ use Rattle.file_requests.specs.declared.message.Asked.TheVariants as asked
 use Rattle.file_requests.specs.declared.request.Request.{Request}
 use Rattle.file_requests.specs.declared.request.Request.TheVariants as request
 
--- an act of one file's part of the world, of the desk, or none
+-- an act of one file's part of the world, of the desk, a tick of each open file, or none
 pub data Target : Type 0 where
   OnFile : (file : ℕ) (act : Act) → Target
   OnDesk : (act : Act) → Target
+  OnTick : (milliseconds : ℕ) → Target
   OnNothing : Target
 
 -- a request that is answered at once
@@ -82,6 +83,7 @@ IsFitting files _ = Unit {0}
 abbrev pub IsRequestOf : Target → ℕ → ℕ → Type 0
 IsRequestOf (OnFile file act) c x = IsRequest act c x
 IsRequestOf (OnDesk act) c x = IsRequest act c x
+IsRequestOf (OnTick milliseconds) c x = ⊥
 IsRequestOf OnNothing c x = ⊥
 
 -- a message that is no call

@@ -1,6 +1,6 @@
 -- Where bodies are, after one file's part was changed.
 use Rattle.std.proofs.Common.{◌≡◌, ◌≢◌, ℕ, Bool, true, false, Option, Some, None, List, Result, Ok, Err, refl, sym, ◌∙◌, ap, subst}
-use Rattle.std.specs.Prelude.{◌==◌, is_err, OnOk}
+use Rattle.std.specs.Prelude.{◌==◌, is_err, is_some, OnOk}
 use Rattle.gw_outside.specs.Tally.{no_calls}
 use Rattle.gw_model.specs.declared.object.ObjectId.{ObjectId}
 use Rattle.gw_model.specs.declared.object.ObjectId.TheVariants.{Body, Log}
@@ -54,6 +54,21 @@ module _ (tells : Type 0) (k : ℕ) (s s' : StoreState) (cells cells' : List (�
   pub placed_home : (files : ℕ) → is_file files k ≡ true → IsBodyHome tells (s'.at (body_id k)) (entry_at k cells') → AreBodiesPlaced tells files s.at cells → AreBodiesPlaced tells files s'.at cells'
   placed_home files in_tree home h = placed_by files files (λ j e. refl) (subst (λ b. IsBodyPlaced tells b (s'.at (body_id k)) (entry_at k cells')) (sym in_tree) home) h
 
+  -- of an open file that a tick came to, or of one that isn't open, to which nothing was done
+  pub ticked_placed : (files : ℕ) → (is_some (entry_at k cells) ≡ true → IsBodyHome tells (s'.at (body_id k)) (entry_at k cells')) → (entry_at k cells ≡ None → (entry_at k cells' ≡ None) × (tells → s'.at (body_id k) ≡ s.at (body_id k)))
+      → AreBodiesPlaced tells files s.at cells → AreBodiesPlaced tells files s'.at cells'
+  ticked_placed files home closed h = placed_by files files (λ j e. refl) (go (entry_at k cells) (is_file files k) refl refl) h
+    where
+      go : (o : Option CellState) (b : Bool) → entry_at k cells ≡ o → is_file files k ≡ b → IsBodyPlaced tells (is_file files k) (s'.at (body_id k)) (entry_at k cells')
+      go None b none in_tree =
+          let still = closed none in
+          subst (IsBodyPlaced tells (is_file files k) (s'.at (body_id k))) (none ∙ sym still.0) (placed_moved tells (is_file files k) (s.at (body_id k)) (s'.at (body_id k)) (entry_at k cells) still.1 (h k))
+      go (Some c) true some in_tree = subst (λ b. IsBodyPlaced tells b (s'.at (body_id k)) (entry_at k cells')) (sym in_tree) (home (ap is_some some))
+      go (Some c) false some in_tree =
+          let none = (subst (λ b. IsBodyPlaced tells b (s.at (body_id k)) (entry_at k cells)) in_tree (h k)).0 in
+          let both : Some c ≡ None = sym some ∙ none in
+          absurd (cc both)
+
 -- a context of the same file
 same_placed : (tells : Type 0) (b : Bool) (x : ObjectState) (o p : Option CellState) → SameFile o p → IsBodyPlaced tells b x o → IsBodyPlaced tells b x p
 same_placed tells b x None None same h = h
@@ -93,13 +108,6 @@ all_safe tells files at cells h k = placed_safe tells (is_file files k) (at (bod
 -- the same contexts
 pub cells_same : (k : ℕ) (cells cells' : List (ℕ × CellState)) → cells' ≡ cells → cells' ≡ put_at k (entry_at k cells') cells
 cells_same k cells cells' is = rw is (sym (put_same k cells))
-
-pub kept_equal : (k : ℕ) (cells cells' : List (ℕ × CellState)) → cells' ≡ cells → IsContextKept (entry_at k cells) (entry_at k cells')
-kept_equal k cells cells' is = rw is (go (entry_at k cells))
-  where
-    go : (o : Option CellState) → IsContextKept o o
-    go None = tt
-    go (Some c) = tt
 
 -- objects
 

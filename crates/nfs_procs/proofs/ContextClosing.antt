@@ -11,11 +11,12 @@ use Rattle.file_cell.specs.State.{CellState}
 use Rattle.file_cell.specs.Files.{StandsFor}
 use Rattle.file_cell.specs.History.{history_text}
 use Rattle.file_calls.specs.Counts.{Counts, file_counts, joined_counts}
+use Rattle.file_calls.specs.OneReply.{histories_text}
 use Rattle.file_calls.specs.Outside.{CarriesCounts, IsBodySafe, body_at, body_id}
 use Rattle.file_calls.specs.PartSteps.{Continues, IsClosedBy}
 use Rattle.nfs_procs.specs.World.{entry_at, end_texts}
 use Rattle.nfs_procs.specs.Contexts.{AllSame, AreBodiesSafe, AreCellsReady, StoreState, bodies_at, total_counts}
-use Rattle.nfs_procs.specs.Closing.{ClosesFront, GivesAllBack, HistoriesLeft, IsWritten, WritesHistories, histories_text}
+use Rattle.nfs_procs.specs.Closing.{ClosesFront, GivesAllBack, HistoriesLeft, IsWritten, WritesHistories}
 use Rattle.nfs_procs.proofs.ContextBodies.{losses_same, objects_stay, safe_moved}
 use Rattle.nfs_procs.proofs.ContextCounts.{total_least, total_tally}
 use Rattle.nfs_procs.proofs.ContextMaps.{at_itself, test_is, test_not}

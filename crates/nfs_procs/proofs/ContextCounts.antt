@@ -14,7 +14,7 @@ use Rattle.file_cell.specs.State.{CellState}
 use Rattle.file_calls.specs.Counts.{Counts, IsCounted, file_counts, joined_counts}
 use Rattle.file_calls.specs.Outside.{counts_at}
 use Rattle.nfs_procs.specs.World.{entry_at, put_by, put_at}
-use Rattle.nfs_procs.specs.Contexts.{IsContextKept, total_counts}
+use Rattle.nfs_procs.specs.Contexts.{IsContextKept, other_cells, total_counts}
 use Rattle.nfs_procs.proofs.ContextMaps.{at_itself}
 
 capped_sum-swap : (a b c : ℕ) → capped_sum (capped_sum a b) c ≡ capped_sum (capped_sum a c) b
@@ -36,11 +36,6 @@ total_joined [] n given = refl
 total_joined (e ∷ es) n given =
     ap (total_counts es) (joined-swap n given (file_counts e.1.file)) ∙ total_joined es (joined_counts n (file_counts e.1.file)) given
 
--- all contexts but the first of a number
-abbrev other_cells : ℕ → List (ℕ × CellState) → List (ℕ × CellState)
-other_cells k [] = []
-other_cells k (e ∷ es) = cond (is_at (nat_cmp k) e.0) es (e ∷ other_cells k es)
-
 -- the others' counts are joined to those of one file's part
 total_split : (k : ℕ) (es : List (ℕ × CellState)) (n : Counts) → total_counts es n ≡ total_counts (other_cells k es) (counts_at n (entry_at k es))
 total_split k [] n = refl
@@ -60,7 +55,7 @@ others_none k (e ∷ es) none = go (is_at (nat_cmp k) e.0) none (λ h. others_no
     go true none rest = absurd (cc none)
     go false none rest = ap (λ xs. e ∷ xs) (rest none)
 
-others_set : (k : ℕ) (es : List (ℕ × CellState)) (d : CellState) → other_cells k (set_value (is_at (nat_cmp k)) es d) ≡ other_cells k es
+pub others_set : (k : ℕ) (es : List (ℕ × CellState)) (d : CellState) → other_cells k (set_value (is_at (nat_cmp k)) es d) ≡ other_cells k es
 others_set k [] d = refl
 others_set k (e ∷ es) d = go (is_at (nat_cmp k) e.0) refl (others_set k es d)
   where
@@ -104,14 +99,23 @@ total_counted (e ∷ es) s a b p =
     })
 
 -- of one file's part
-pub part_counted : (k : ℕ) (es es' : List (ℕ × CellState)) (s : List Outcome) (n n' : Counts) → es' ≡ put_at k (entry_at k es') es → IsContextKept (entry_at k es) (entry_at k es')
+pub part_counted : (k : ℕ) (es es' : List (ℕ × CellState)) (s : List Outcome) (n n' : Counts) → other_cells k es' ≡ other_cells k es
     → IsCounted s (counts_at n (entry_at k es)) (counts_at n' (entry_at k es')) → IsCounted s (total_counts es n) (total_counts es' n')
-part_counted k es es' s n n' is kept p =
-    let same : other_cells k es' ≡ other_cells k es = ap (other_cells k) is ∙ others_put k (entry_at k es') es kept in
+part_counted k es es' s n n' same p =
     let old = total_split k es n in
     let new = total_split k es' n' ∙ ap (λ xs. total_counts xs (counts_at n' (entry_at k es'))) same in
     subst (λ x. IsCounted s x (total_counts es' n')) (sym old) (subst (IsCounted s (total_counts (other_cells k es) (counts_at n (entry_at k es)))) (sym new)
     (total_counted (other_cells k es) s (counts_at n (entry_at k es)) (counts_at n' (entry_at k es')) p))
+
+-- where its context was kept, and where it is gone
+pub others_kept : (k : ℕ) (es es' : List (ℕ × CellState)) → es' ≡ put_at k (entry_at k es') es → IsContextKept (entry_at k es) (entry_at k es') → other_cells k es' ≡ other_cells k es
+others_kept k es es' is kept = ap (other_cells k) is ∙ others_put k (entry_at k es') es kept
+
+pub others_equal : (k : ℕ) (es es' : List (ℕ × CellState)) → es' ≡ es → other_cells k es' ≡ other_cells k es
+others_equal k es es' is = ap (other_cells k) is
+
+pub others_gone : (k : ℕ) (es : List (ℕ × CellState)) → entry_at k (other_cells k es) ≡ None → other_cells k (other_cells k es) ≡ other_cells k es
+others_gone k es none = others_none k (other_cells k es) none
 
 -- a count that rose
 

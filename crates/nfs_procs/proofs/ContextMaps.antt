@@ -5,10 +5,11 @@ use Rattle.std.specs.declared.cmp.Ordering.{Ordering}
 use Rattle.std.specs.declared.cmp.Ordering.TheVariants.{Less, Equal, Greater}
 use Rattle.std.specs.Ordering.{nat_cmp, is_eq, match_ordering}
 use Rattle.std.specs.BTreeMap.{insert_entry, is_at}
-use Rattle.std.specs.Map.{lookup, set_value}
+use Rattle.std.specs.Map.{lookup, remove_entry, set_value}
 use Rattle.std.proofs.lemmas.Bool.Decides.{nat_tests}
 use Rattle.nfs_procs.specs.World.{entry_at, put_by, put_at, without_entry}
-use Rattle.nfs_procs.specs.Contexts.{AllSame, AreBoth}
+use Rattle.file_calls.specs.declared.hull.ClosedHull.{ClosedHull}
+use Rattle.nfs_procs.specs.Contexts.{AllSame, AreBoth, lost_at}
 
 -- numbers
 
@@ -51,7 +52,7 @@ module _ {V : Type 0} where
       go true is h rest = ap (λ b. cond b (Some v) (lookup test es)) is
       go false is h rest = ap (λ b. cond b (Some e.1) (lookup test (set_value test es v))) is ∙ rest h
 
-  other_set : (test other : ℕ → Bool) → ((x : ℕ) → test x ≡ true → other x ≡ false) → (es : List (ℕ × V)) (v : V) → lookup other (set_value test es v) ≡ lookup other es
+  pub other_set : (test other : ℕ → Bool) → ((x : ℕ) → test x ≡ true → other x ≡ false) → (es : List (ℕ × V)) (v : V) → lookup other (set_value test es v) ≡ lookup other es
   other_set test other apart [] v = refl
   other_set test other apart (e ∷ es) v = go (test e.0) refl (other_set test other apart es v)
     where
@@ -59,7 +60,7 @@ module _ {V : Type 0} where
       go true is rest = ap (λ b. cond b (Some v) (lookup other es)) (apart e.0 is) ∙ sym (ap (λ b. cond b (Some e.1) (lookup other es)) (apart e.0 is))
       go false is rest = ap (λ x. cond (other e.0) (Some e.1) x) rest
 
-  found_insert : (k : ℕ) (es : List (ℕ × V)) (v : V) → entry_at k (insert_entry nat_cmp es k v) ≡ Some v
+  pub found_insert : (k : ℕ) (es : List (ℕ × V)) (v : V) → entry_at k (insert_entry nat_cmp es k v) ≡ Some v
   found_insert k [] v = ap (λ b. cond b (Some v) None) (at_itself k)
   found_insert k (e ∷ es) v = go (nat_cmp k e.0) refl (found_insert k es v)
     where
@@ -68,7 +69,7 @@ module _ {V : Type 0} where
       go Equal is rest = ap (λ b. cond b (Some v) (entry_at k es)) (ap is_eq is)
       go Greater is rest = ap (λ b. cond b (Some e.1) (entry_at k (insert_entry nat_cmp es k v))) (ap is_eq is) ∙ rest
 
-  other_insert : (j k : ℕ) → (j ≡ k → ⊥) → (es : List (ℕ × V)) (v : V) → entry_at j (insert_entry nat_cmp es k v) ≡ entry_at j es
+  pub other_insert : (j k : ℕ) → (j ≡ k → ⊥) → (es : List (ℕ × V)) (v : V) → entry_at j (insert_entry nat_cmp es k v) ≡ entry_at j es
   other_insert j k apart [] v = ap (λ b. cond b (Some v) None) (at_apart j k apart)
   other_insert j k apart (e ∷ es) v = go (nat_cmp k e.0) refl (other_insert j k apart es v)
     where
@@ -129,6 +130,42 @@ module _ {V : Type 0} where
       go : (a : Option V) → entry_at k es ≡ a → put_by a a k es ≡ es
       go None is = refl
       go (Some v) is = set_same (is_at (nat_cmp k)) es v is
+
+-- an entry is taken out
+
+module _ {V : Type 0} where
+  without_none : (k : ℕ) (es : List (ℕ × V)) → entry_at k es ≡ None → without_entry k es ≡ es
+  without_none k [] none = refl
+  without_none k (e ∷ es) none = go (is_at (nat_cmp k) e.0) none (λ h. without_none k es h)
+    where
+      go : (b : Bool) → cond b (Some e.1) (entry_at k es) ≡ None → (entry_at k es ≡ None → without_entry k es ≡ es) → cond b (without_entry k es) (e ∷ without_entry k es) ≡ e ∷ es
+      go true none rest = absurd (cc none)
+      go false none rest = ap (λ xs. e ∷ xs) (rest none)
+
+  -- where the first was the only one
+  pub removed_is : (k : ℕ) (es : List (ℕ × V)) → entry_at k (remove_entry (is_at (nat_cmp k)) es) ≡ None → remove_entry (is_at (nat_cmp k)) es ≡ without_entry k es
+  removed_is k [] none = refl
+  removed_is k (e ∷ es) none = go (is_at (nat_cmp k) e.0) refl none (λ h. removed_is k es h)
+    where
+      go : (b : Bool) → is_at (nat_cmp k) e.0 ≡ b → entry_at k (cond b es (e ∷ remove_entry (is_at (nat_cmp k)) es)) ≡ None → (entry_at k (remove_entry (is_at (nat_cmp k)) es) ≡ None → remove_entry (is_at (nat_cmp k)) es ≡ without_entry k es)
+          → cond b es (e ∷ remove_entry (is_at (nat_cmp k)) es) ≡ cond b (without_entry k es) (e ∷ without_entry k es)
+      go true is none rest = sym (without_none k es none)
+      go false is none rest = ap (λ xs. e ∷ xs) (rest (ap (λ b. cond b (Some e.1) (entry_at k (remove_entry (is_at (nat_cmp k)) es))) (sym is) ∙ none))
+
+  -- another value at its number makes no difference
+  pub without_set : (k : ℕ) (es : List (ℕ × V)) (v : V) → without_entry k (set_value (is_at (nat_cmp k)) es v) ≡ without_entry k es
+  without_set k [] v = refl
+  without_set k (e ∷ es) v = go (is_at (nat_cmp k) e.0) refl (without_set k es v)
+    where
+      go : (b : Bool) → is_at (nat_cmp k) e.0 ≡ b → without_entry k (set_value (is_at (nat_cmp k)) es v) ≡ without_entry k es
+          → without_entry k (cond b ((e.0, v) ∷ es) (e ∷ set_value (is_at (nat_cmp k)) es v)) ≡ cond b (without_entry k es) (e ∷ without_entry k es)
+      go true is rest = ap (λ b. cond b (without_entry k es) ((e.0, v) ∷ without_entry k es)) is
+      go false is rest = ap (λ b. cond b (without_entry k (set_value (is_at (nat_cmp k)) es v)) (e ∷ without_entry k (set_value (is_at (nat_cmp k)) es v))) is ∙ ap (λ xs. e ∷ xs) rest
+
+-- what was lost of files
+
+pub hulls_same : (k : ℕ) (hulls hulls' : List (ℕ × Option ClosedHull)) → hulls' ≡ hulls → (j : ℕ) → (j == k) ≡ false → lost_at j hulls' ≡ lost_at j hulls
+hulls_same k hulls hulls' is j apart = ap (lost_at j) is
 
 -- two lists with the same numbers
 

@@ -9,7 +9,7 @@ use Rattle.gw_model.specs.declared.limits.Limits.{Limits}
 use Rattle.file_cell.specs.State.{CellState}
 use Rattle.file_calls.specs.PartSteps.{IsCellReady, SameSettings}
 use Rattle.nfs_procs.specs.World.{entry_at}
-use Rattle.nfs_procs.specs.Contexts.{AreCellsReady}
+use Rattle.nfs_procs.specs.Contexts.{AreCellsReady, other_cells}
 use Rattle.nfs_procs.proofs.ContextMaps.{at_is, equal_is}
 
 abbrev cell_or : CellState → Option CellState → CellState
@@ -47,3 +47,11 @@ ready_insert limits k (x ∷ xs) d h r = go (nat_cmp k x.0) refl (ready_insert l
 
 pub inserted_ready : (limits : Limits) (k : ℕ) (es es' : List (ℕ × CellState)) (d : CellState) → es' ≡ insert_entry nat_cmp es k d → AreCellsReady limits es → IsCellReady limits k d → AreCellsReady limits es'
 inserted_ready limits k es es' d is h r = subst (AreCellsReady limits) (sym is) (ready_insert limits k es d h r)
+
+pub ready_removed : (limits : Limits) (k : ℕ) (es : List (ℕ × CellState)) → AreCellsReady limits es → AreCellsReady limits (other_cells k es)
+ready_removed limits k [] h = tt
+ready_removed limits k (x ∷ xs) h = go (is_at (nat_cmp k) x.0) (ready_removed limits k xs h.3)
+  where
+    go : (b : Bool) → AreCellsReady limits (other_cells k xs) → AreCellsReady limits (cond b xs (x ∷ other_cells k xs))
+    go true rest = h.3
+    go false rest = (h.0, h.1, h.2, rest)

@@ -10,59 +10,66 @@ use Rattle.file_cell.specs.State.{CellState}
 use Rattle.file_calls.specs.Acts.{Act, CreateFile, IsRequest}
 use Rattle.file_requests.specs.Messages.{is_file}
 use Rattle.file_calls.specs.Outside.{Scene, Store, IsActCut, IsActed, IsStep, StepsTo, part_state, scene, ahead_at, body_id, IsBodyHome, IsBodySafe}
-use Rattle.file_requests.specs.Targets.{Target, OnDesk, OnFile, OnNothing, IsRequestOf}
+use Rattle.file_requests.specs.Targets.{Target, OnDesk, OnFile, OnTick, OnNothing, IsRequestOf}
 use Rattle.nfs_procs.specs.World.{World, Operation, CreateNamed, entry_at, has_name, names_after, next_file, next, target_by_state, target_result, with_names}
-use Rattle.nfs_procs.specs.Contexts.{ProgramState, StoreState, AreBodiesPlaced, AreBodiesSafe, IsBodyPlaced, IsCutOff, IsDone, IsOperation, LeavesWorld, body_store, scene_at, world_scene, file_count}
+use Rattle.nfs_procs.specs.Contexts.{ProgramState, StoreState, AreBodiesPlaced, AreBodiesSafe, IsBodyPlaced, IsCutOff, IsDone, IsOperation, LeavesWorld, body_store, lost_at, scene_at, world_scene, file_count}
+use Rattle.file_calls.specs.declared.hull.ClosedHull.{ClosedHull}
 use Rattle.file_calls.specs.declared.part.StepResult.{StepResult}
 use Rattle.file_calls.specs.declared.part.StepResult.TheVariants as stepped
 use Rattle.file_calls.proofs.OneReply.{speaks_none}
-use Rattle.nfs_procs.proofs.ContextBodies.{all_safe, cells_same, kept_equal, placed_by, safe_by}
+use Rattle.nfs_procs.proofs.ContextBodies.{all_safe, cells_same, placed_by, safe_by}
+use Rattle.nfs_procs.proofs.ContextCounts.{others_equal}
+use Rattle.nfs_procs.proofs.ContextMaps.{hulls_same}
 use Rattle.nfs_procs.proofs.ContextNames.{made_file, named_longer, other_file, unmade_file}
 use Rattle.nfs_procs.proofs.ContextParts.{SameBut, always, always_cut, desk_cut, desk_done, desk_store, part_cut, part_done}
 use Rattle.nfs_procs.proofs.WorldOperations.{passed_still}
 
 -- a request, whether it is of a file or of the desk
 
-module _ (tells : Type 0) (operation : Operation) (h h' : ProgramState) (s : StoreState) (names : h'.names ≡ names_after operation h.names) (cells : h'.cells ≡ h.cells) (conn xid : ℕ) where
+module _ (tells : Type 0) (operation : Operation) (h h' : ProgramState) (s : StoreState) (names : h'.names ≡ names_after operation h.names) (cells : h'.cells ≡ h.cells) (hulls : h'.hulls ≡ h.hulls) (conn xid : ℕ) where
   request_part : (k : ℕ) (act : Act) (text : List ℕ) → target_by_state h.tracker.settings h.names h.cells operation ≡ OnFile k act
-      → ((o : Option CellState) (x : Store) → IsStep (Unit {0}) act (scene (part_state o h.tracker) x) (scene (part_state o h'.tracker) x) text false) → IsDone tells operation (world_scene h s) (world_scene h' s) text false
+      → ((o : Option CellState) (lost : Option ClosedHull) (x : Store) → IsStep (Unit {0}) act (scene (part_state lost o h.tracker) x) (scene (part_state lost o h'.tracker) x) text false) → IsDone tells operation (world_scene h s) (world_scene h' s) text false
   request_part k act text aim step =
       let old = scene_at k h s in
       let moved : IsStep (Unit {0}) act old (scene_at k h' s) text false
-      = subst (λ o. IsStep (Unit {0}) act old (scene (part_state o h'.tracker) (record { body = s.at (body_id k); counts = s.counts })) text false) (sym (ap (entry_at k) cells)) (step (entry_at k h.cells) (record { body = s.at (body_id k); counts = s.counts })) in
-      part_done tells operation k act h h' s s aim names (cells_same k h.cells h'.cells cells) (kept_equal k h.cells h'.cells cells) (λ told q apart. (refl, refl)) text false (always tells act old (scene_at k h' s) text false moved)
+      = subst (λ l. IsStep (Unit {0}) act old (scene (part_state l (entry_at k h'.cells) h'.tracker) (body_store k s)) text false) (sym (ap (lost_at k) hulls))
+      (subst (λ o. IsStep (Unit {0}) act old (scene (part_state (lost_at k h.hulls) o h'.tracker) (body_store k s)) text false) (sym (ap (entry_at k) cells)) (step (entry_at k h.cells) (lost_at k h.hulls) (body_store k s))) in
+      part_done tells operation k act h h' s s aim names (cells_same k h.cells h'.cells cells) (others_equal k h.cells h'.cells cells) (hulls_same k h.hulls h'.hulls hulls) (λ told q apart. (refl, refl)) text false (always tells act old (scene_at k h' s) text false moved)
 
   cut_part : (k : ℕ) (act : Act) → target_by_state h.tracker.settings h.names h.cells operation ≡ OnFile k act
-      → ((o : Option CellState) (x : Store) → IsActCut (Unit {0}) act (scene (part_state o h.tracker) x) (scene (part_state o h'.tracker) x)) → IsCutOff tells operation (world_scene h s) (world_scene h' s)
+      → ((o : Option CellState) (lost : Option ClosedHull) (x : Store) → IsActCut (Unit {0}) act (scene (part_state lost o h.tracker) x) (scene (part_state lost o h'.tracker) x)) → IsCutOff tells operation (world_scene h s) (world_scene h' s)
   cut_part k act aim step =
       let old = scene_at k h s in
       let moved : IsActCut (Unit {0}) act old (scene_at k h' s)
-      = subst (λ o. IsActCut (Unit {0}) act old (scene (part_state o h'.tracker) (record { body = s.at (body_id k); counts = s.counts }))) (sym (ap (entry_at k) cells)) (step (entry_at k h.cells) (record { body = s.at (body_id k); counts = s.counts })) in
-      part_cut tells operation k act h h' s s aim names (cells_same k h.cells h'.cells cells) (kept_equal k h.cells h'.cells cells) (λ told q apart. (refl, refl)) (always_cut tells act old (scene_at k h' s) moved)
+      = subst (λ l. IsActCut (Unit {0}) act old (scene (part_state l (entry_at k h'.cells) h'.tracker) (body_store k s))) (sym (ap (lost_at k) hulls))
+      (subst (λ o. IsActCut (Unit {0}) act old (scene (part_state (lost_at k h.hulls) o h'.tracker) (body_store k s))) (sym (ap (entry_at k) cells)) (step (entry_at k h.cells) (lost_at k h.hulls) (body_store k s))) in
+      part_cut tells operation k act h h' s s aim names (cells_same k h.cells h'.cells cells) (others_equal k h.cells h'.cells cells) (hulls_same k h.hulls h'.hulls hulls) (λ told q apart. (refl, refl)) (always_cut tells act old (scene_at k h' s) moved)
 
   request_by : (target : Target) (text : List ℕ) → target_by_state h.tracker.settings h.names h.cells operation ≡ target → IsRequestOf target conn xid
-      → ((act : Act) → IsRequest act conn xid → (o : Option CellState) (x : Store) → IsStep (Unit {0}) act (scene (part_state o h.tracker) x) (scene (part_state o h'.tracker) x) text false)
+      → ((act : Act) → IsRequest act conn xid → (o : Option CellState) (lost : Option ClosedHull) (x : Store) → IsStep (Unit {0}) act (scene (part_state lost o h.tracker) x) (scene (part_state lost o h'.tracker) x) text false)
       → IsDone tells operation (world_scene h s) (world_scene h' s) text false
   request_by (OnFile k act) text aim is step = request_part k act text aim (step act is)
-  request_by (OnDesk act) text aim is step = desk_done tells operation act h h' s aim names cells text false (step act is None (desk_store h s))
+  request_by (OnDesk act) text aim is step = desk_done tells operation act h h' s aim names cells hulls text false (step act is None None (desk_store h s))
+  request_by (OnTick milliseconds) text aim is step = absurd is
   request_by OnNothing text aim is step = absurd is
 
   cut_by : (target : Target) → target_by_state h.tracker.settings h.names h.cells operation ≡ target → IsRequestOf target conn xid
-      → ((act : Act) → IsRequest act conn xid → (o : Option CellState) (x : Store) → IsActCut (Unit {0}) act (scene (part_state o h.tracker) x) (scene (part_state o h'.tracker) x))
+      → ((act : Act) → IsRequest act conn xid → (o : Option CellState) (lost : Option ClosedHull) (x : Store) → IsActCut (Unit {0}) act (scene (part_state lost o h.tracker) x) (scene (part_state lost o h'.tracker) x))
       → IsCutOff tells operation (world_scene h s) (world_scene h' s)
   cut_by (OnFile k act) aim is step = cut_part k act aim (step act is)
-  cut_by (OnDesk act) aim is step = desk_cut tells operation act h h' s aim names cells (step act is None (desk_store h s))
+  cut_by (OnDesk act) aim is step = desk_cut tells operation act h h' s aim names cells hulls (step act is None None (desk_store h s))
+  cut_by (OnTick milliseconds) aim is step = absurd is
   cut_by OnNothing aim is step = absurd is
 
   -- memory was refused for it
   pub refused_done : {E : Type 0} (result : Result (String Global) E) → IsRequestOf (target_by_state h.tracker.settings h.names h.cells operation) conn xid
-      → ((act : Act) → IsRequest act conn xid → (o : Option CellState) (x : Store) → IfOk result (StepsTo (Unit {0}) act (scene (part_state o h.tracker) x) (scene (part_state o h'.tracker) x)))
+      → ((act : Act) → IsRequest act conn xid → (o : Option CellState) (lost : Option ClosedHull) (x : Store) → IfOk result (StepsTo (Unit {0}) act (scene (part_state lost o h.tracker) x) (scene (part_state lost o h'.tracker) x)))
       → IfOk result (λ text. IsDone tells operation (world_scene h s) (world_scene h' s) (string_bytes text) false)
   refused_done (Ok text) is step = request_by (target_by_state h.tracker.settings h.names h.cells operation) (string_bytes text) refl is step
   refused_done (Err e) is step = tt
 
   pub refused_cut : {T E : Type 0} (result : Result T E) → IsRequestOf (target_by_state h.tracker.settings h.names h.cells operation) conn xid
-      → ((act : Act) → IsRequest act conn xid → (o : Option CellState) (x : Store) → OnErr result (IsActCut (Unit {0}) act (scene (part_state o h.tracker) x) (scene (part_state o h'.tracker) x)))
+      → ((act : Act) → IsRequest act conn xid → (o : Option CellState) (lost : Option ClosedHull) (x : Store) → OnErr result (IsActCut (Unit {0}) act (scene (part_state lost o h.tracker) x) (scene (part_state lost o h'.tracker) x)))
       → OnErr result (IsCutOff tells operation (world_scene h s) (world_scene h' s))
   refused_cut (Ok text) is step = tt
   refused_cut (Err e) is step = cut_by (target_by_state h.tracker.settings h.names h.cells operation) refl is step
@@ -93,7 +100,7 @@ next_closed tells h s file is placed =
     subst (λ b. IsBodyPlaced tells b (s.at (body_id file)) (entry_at file h.cells)) (ap (is_file (file_count h)) is ∙ unmade_file (file_count h)) (placed file)
 
 module _ (tells : Type 0) (name : List ℕ) (h h' : ProgramState) (s s' : StoreState) (file : ℕ) (is : file ≡ next_file h.names) (new : has_name name h.names ≡ false)
-    (names : h'.names ≡ insert_entry (slice_cmp nat_cmp) h.names name file) (cells : h'.cells ≡ h.cells) (closed : entry_at file h.cells ≡ None) (same : tells → SameBut file s s') where
+    (names : h'.names ≡ insert_entry (slice_cmp nat_cmp) h.names name file) (cells : h'.cells ≡ h.cells) (hulls : h'.hulls ≡ h.hulls) (closed : entry_at file h.cells ≡ None) (same : tells → SameBut file s s') where
   aim : target_by_state h.tracker.settings h.names h.cells (CreateNamed name) ≡ OnFile file CreateFile
   aim = ap (λ b. if b then OnNothing else OnFile (next_file h.names) CreateFile) new ∙ ap (λ k. OnFile k CreateFile) (sym is)
 
@@ -104,22 +111,22 @@ module _ (tells : Type 0) (name : List ℕ) (h h' : ProgramState) (s s' : StoreS
   closed_after = ap (entry_at file) cells ∙ closed
 
   abbrev old_part : Scene
-  old_part = scene (part_state None h.tracker) (body_store file s)
+  old_part = scene (part_state (lost_at file h.hulls) None h.tracker) (body_store file s)
 
   abbrev new_part : Scene
-  new_part = scene (part_state None h'.tracker) (body_store file s')
+  new_part = scene (part_state (lost_at file h'.hulls) None h'.tracker) (body_store file s')
 
   made_text : (text : List ℕ) (stopped : Bool) → IsStep tells CreateFile old_part new_part text stopped → IsDone tells (CreateNamed name) (world_scene h s) (world_scene h' s') text stopped
   made_text text stopped m =
-      part_done tells (CreateNamed name) file CreateFile h h' s s' aim names_is (cells_same file h.cells h'.cells cells) (kept_equal file h.cells h'.cells cells) same text stopped
-      (subst (λ o. IsStep tells CreateFile (scene (part_state o h.tracker) (body_store file s)) (scene_at file h' s') text stopped) (sym closed)
-      (subst (λ o. IsStep tells CreateFile old_part (scene (part_state o h'.tracker) (body_store file s')) text stopped) (sym closed_after) m))
+      part_done tells (CreateNamed name) file CreateFile h h' s s' aim names_is (cells_same file h.cells h'.cells cells) (others_equal file h.cells h'.cells cells) (hulls_same file h.hulls h'.hulls hulls) same text stopped
+      (subst (λ o. IsStep tells CreateFile (scene (part_state (lost_at file h.hulls) o h.tracker) (body_store file s)) (scene_at file h' s') text stopped) (sym closed)
+      (subst (λ o. IsStep tells CreateFile old_part (scene (part_state (lost_at file h'.hulls) o h'.tracker) (body_store file s')) text stopped) (sym closed_after) m))
 
   made_cut : IsActCut tells CreateFile old_part new_part → IsCutOff tells (CreateNamed name) (world_scene h s) (world_scene h' s')
   made_cut m =
-      part_cut tells (CreateNamed name) file CreateFile h h' s s' aim names_is (cells_same file h.cells h'.cells cells) (kept_equal file h.cells h'.cells cells) same
-      (subst (λ o. IsActCut tells CreateFile (scene (part_state o h.tracker) (body_store file s)) (scene_at file h' s')) (sym closed)
-      (subst (λ o. IsActCut tells CreateFile old_part (scene (part_state o h'.tracker) (body_store file s'))) (sym closed_after) m))
+      part_cut tells (CreateNamed name) file CreateFile h h' s s' aim names_is (cells_same file h.cells h'.cells cells) (others_equal file h.cells h'.cells cells) (hulls_same file h.hulls h'.hulls hulls) same
+      (subst (λ o. IsActCut tells CreateFile (scene (part_state (lost_at file h.hulls) o h.tracker) (body_store file s)) (scene_at file h' s')) (sym closed)
+      (subst (λ o. IsActCut tells CreateFile old_part (scene (part_state (lost_at file h'.hulls) o h'.tracker) (body_store file s'))) (sym closed_after) m))
 
   pub made : (result : StepResult) → IsActed tells result CreateFile old_part new_part → IsOperation tells result (CreateNamed name) (world_scene h s) (world_scene h' s')
   made (stepped.Text text) m = made_text (string_bytes text) false m

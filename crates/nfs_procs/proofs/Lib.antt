@@ -8,4 +8,6 @@ pub mod ContextReady
 pub mod ContextSteps
 pub mod ContextTargets
 pub mod WorldOperations
+pub mod ContextHulls
+pub mod WorldTicks
 pub mod ContextStores

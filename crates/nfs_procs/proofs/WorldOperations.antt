@@ -129,7 +129,7 @@ begin_done tells k s few = record {
   notes = sym (append-nil k.tracker.noted.outcomes);
   speaks = speaks_none k.tracker.desk;
   passed = record { after = λ later h. after_begin k.tracker.noted later few h; counts = counted_none (world_scene k s).counts };
-  next_is = λ told w is later h. record { world = record { names = is.names; opens = is.opens; bodies = is.bodies; desk = is.desk; settings = is.settings }; text_is = refl; stop = refl; ahead = refl };
+  next_is = λ told w is later h. record { world = record { names = is.names; opens = is.opens; bodies = is.bodies; desk = is.desk; settings = is.settings; moment = is.moment; hulls = is.hulls }; text_is = refl; stop = refl; ahead = refl };
 }
 
 pub does_begin : (tells : Type 0) (xs : List Operation) (k : ProgramState) (s : StoreState) (new : WorldScene) (text : List ℕ) → k.tracker.noted.event < 2 ^ 64 - 1 → Does tells xs (world_scene (begun k) s) new text

@@ -5,10 +5,10 @@ use Rattle.gw_model.specs.declared.limits.Limits.{Limits}
 use Rattle.gw_model.specs.File.{File}
 use Rattle.gw_model.specs.Ending.{History}
 use Rattle.gw_outside.specs.Writing.{AppendsPrefix}
-use Rattle.file_cell.specs.History.{history_text}
 use Rattle.file_cell.specs.State.{CellState}
 use Rattle.file_cell.specs.Files.{StandsFor}
 use Rattle.file_calls.specs.Counts.{Counts}
+use Rattle.file_calls.specs.OneReply.{histories_text}
 use Rattle.nfs_procs.specs.World.{end_texts}
 use Rattle.nfs_procs.specs.Contexts.{AllSame, AreBodiesSafe, AreCellsReady, ObjectsStay, SameLosses, StoreState, bodies_at, total_counts}
 
@@ -16,11 +16,6 @@ use Rattle.nfs_procs.specs.Contexts.{AllSame, AreBodiesSafe, AreCellsReady, Obje
 abbrev pub IsWritten : {T E : Type 0} → Result T E → List ℕ → Option (List ℕ) → Option (List ℕ) → Type 0
 IsWritten (Ok x) text held held' = Appends held held' text
 IsWritten (Err x) text held held' = AppendsPrefix held held' text
-
--- contexts' histories, one after another
-abbrev pub histories_text : List (ℕ × History) → List ℕ
-histories_text [] = []
-histories_text (h ∷ hs) = history_text h.0 h.1 ++ histories_text hs
 
 -- The histories of all contexts, by rising number.
 pub record WritesHistories {T E : Type 0} (result : Result T E) (cells : List (ℕ × CellState)) (held held' : Option (List ℕ)) : Type 0 where

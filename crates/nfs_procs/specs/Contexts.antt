@@ -1,5 +1,8 @@
 -- What the program keeps of many files, which worlds it stands for, and what operations leave of both.
-use Rattle.std.specs.Prelude.{◌≡◌, ◌≢◌, ℕ, ◌⊎◌, Bool, true, false, List, [], ◌∷◌, ◌++◌, length, Option, Some, None, string_bytes}
+use Rattle.std.specs.Prelude.{◌≡◌, ◌≢◌, ℕ, ◌⊎◌, Bool, true, false, List, [], ◌∷◌, ◌++◌, length, Option, Some, None, is_some, string_bytes}
+use Rattle.std.specs.Ordering.{nat_cmp}
+use Rattle.std.specs.BTreeMap.{is_at}
+use Rattle.std.specs.Map.{remove_entry}
 use Rattle.gw_model.specs.declared.limits.Limits.{Limits}
 use Rattle.gw_model.specs.declared.object.ObjectId.{ObjectId}
 use Rattle.gw_model.specs.Ahead.{Outcome}
@@ -11,6 +14,7 @@ use Rattle.file_cell.specs.Files.{StandsFor}
 use Rattle.file_calls.specs.Counts.{Counts, IsCounted, file_counts, joined_counts}
 use Rattle.file_calls.specs.OneReply.{Speaks}
 use Rattle.file_calls.specs.Outside.{TrackerState, new_tracker, PartState, Scene, Store, part_state, store_counts, body_id, body_at, scene, IsBodySafe, IsBodyHome, IsAfter, ahead_at}
+use Rattle.file_calls.specs.declared.hull.ClosedHull.{ClosedHull}
 use Rattle.file_requests.specs.Messages.{is_file}
 use Rattle.file_requests.specs.Targets.{Target}
 use Rattle.nfs_procs.specs.World.{World, Operation, WorldResult, entry_at, put_at, target_by_state, names_after, world_bodies, next, operations_result}
@@ -25,16 +29,30 @@ pub record ProgramState : Type 0 where
   pub names : List (List ℕ × ℕ)
   pub cells : List (ℕ × CellState)
   pub tracker : TrackerState
+  -- what was lost of files that were closed, by rising number
+  pub hulls : List (ℕ × Option ClosedHull)
 
 abbrev pub initial_state : Settings → ProgramState
-initial_state settings = record { names = []; cells = []; tracker = new_tracker settings }
+initial_state settings = record { names = []; cells = []; tracker = new_tracker settings; hulls = [] }
 
 abbrev pub file_count : ProgramState → ℕ
 file_count k = length k.names
 
+-- what was lost of one file
+abbrev pub lost_in : Option (Option ClosedHull) → Option ClosedHull
+lost_in None = None
+lost_in (Some lost) = lost
+
+abbrev pub lost_at : ℕ → List (ℕ × Option ClosedHull) → Option ClosedHull
+lost_at k hulls = lost_in (entry_at k hulls)
+
+-- it can be kept without memory
+abbrev pub has_place : ℕ → List (ℕ × Option ClosedHull) → Bool
+has_place k hulls = is_some (entry_at k hulls)
+
 -- one file's part
 abbrev pub state_at : ℕ → ProgramState → PartState
-state_at k s = part_state (entry_at k s.cells) s.tracker
+state_at k s = part_state (lost_at k s.hulls) (entry_at k s.cells) s.tracker
 
 -- an operation is of this, and makes no file
 abbrev pub HasTarget : ProgramState → Operation → Target → Type 0
@@ -115,6 +133,11 @@ SameLosses s s' = (q : ObjectId) → s'.losses q ≡ s.losses q
 pub record ChangesPart (k : ℕ) (old new : ProgramState) : Type 0 where
   pub names : new.names ≡ old.names
   pub cells : new.cells ≡ put_at k (entry_at k new.cells) old.cells
+  pub hulls : new.hulls ≡ old.hulls
+
+-- all contexts but the one of a number
+abbrev pub other_cells : ℕ → List (ℕ × CellState) → List (ℕ × CellState)
+other_cells k cells = remove_entry (is_at (nat_cmp k)) cells
 
 -- no context is closed
 abbrev pub IsContextKept : Option CellState → Option CellState → Type 0
@@ -143,6 +166,8 @@ pub record IsWorld (s : WorldScene) (w : World) : Type 0 where
   pub bodies : (k : ℕ) → world_bodies w k ≡ s.bodies k
   pub desk : w.desk ≡ s.kept.tracker.desk
   pub settings : w.settings ≡ s.kept.tracker.settings
+  pub moment : w.moment ≡ s.kept.tracker.moment
+  pub hulls : (k : ℕ) → w.hulls k ≡ lost_at k s.kept.hulls
 
 -- what passed: outcomes that may come behind what was before, each a call that was counted or a refusal
 pub record Passed (old new : WorldScene) (outcomes : List Outcome) : Type 0 where

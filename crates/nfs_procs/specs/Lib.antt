@@ -1,3 +1,4 @@
 pub mod Closing
 pub mod Contexts
+pub mod Ticks
 pub mod World

@@ -1,5 +1,5 @@
 -- The sequential definition of the gateway over many files. Each operation is of one file's part of the world, or of the desk.
-use Rattle.std.specs.Prelude.{ℕ, ◌+◌, ◌==◌, ◌||◌, if◌then◌else◌, nat_lt, Bool, true, false, cond, List, [], ◌∷◌, ◌++◌, length, Option, Some, None, is_some}
+use Rattle.std.specs.Prelude.{ℕ, ◌+◌, ◌==◌, ◌||◌, if◌then◌else◌, nat_lt, Bool, true, false, cond, List, [], ◌∷◌, ◌++◌, map, length, Option, Some, None, is_some}
 use Rattle.std.specs.Ordering.{nat_cmp}
 use Rattle.std.specs.Cmp.Lexicographic.{slice_cmp}
 use Rattle.std.specs.BTreeMap.{insert_entry, is_at}
@@ -11,10 +11,12 @@ use Rattle.gw_model.specs.Ending.{Ended, history_of}
 use Rattle.gw_config.specs.Settings.{Settings}
 use Rattle.tickets.specs.Desk.{DeskState, new_desk}
 use Rattle.file_cell.specs.History.{history_text}
-use Rattle.file_calls.specs.Acts.{CreateFile, BeginEvent, WriteFile, CloseConnection, TurnFile, PumpFile, SyncFile}
+use Rattle.file_calls.specs.Acts.{Act, CreateFile, BeginEvent, WriteFile, CloseConnection, TurnFile, PumpFile, SyncFile, BeginTick, TickFile}
 use Rattle.file_calls.specs.Acts as act
 use Rattle.file_calls.specs.Part.{Part, PartResult, next_part, part_body}
-use Rattle.file_requests.specs.Targets.{Target, OnFile, OnDesk, OnNothing, reply_target, message_target}
+use Rattle.file_calls.specs.Terms.{Terms}
+use Rattle.file_calls.specs.declared.hull.ClosedHull.{ClosedHull}
+use Rattle.file_requests.specs.Targets.{Target, OnFile, OnDesk, OnTick, OnNothing, reply_target, message_target}
 
 -- what events ask for
 pub data Operation : Type 0 where
@@ -34,6 +36,10 @@ pub data Operation : Type 0 where
   PumpOf : (file : ℕ) → Operation
   -- an event: the writer of a file syncs
   SyncOf : (file : ℕ) → Operation
+  -- an event: so many milliseconds are gone, and the tick comes to each open file
+  TickBy : (milliseconds : ℕ) → Operation
+  -- of a tick: it comes to a file
+  TickOf : (file : ℕ) → Operation
 
 pub record World : Type 0 where
   -- the names in the root with the numbers of their files, by rising name
@@ -42,12 +48,16 @@ pub record World : Type 0 where
   pub bodies : ℕ → List ℕ
   -- the contexts, by rising number of their files
   pub opens : List (ℕ × File)
+  -- what was lost of each file when it was closed
+  pub hulls : ℕ → Option ClosedHull
   -- the tickets issued, and those that wait for an answer
   pub desk : DeskState
   pub settings : Settings
+  -- in milliseconds
+  pub moment : ℕ
 
 abbrev pub world_at_start : Settings → (ℕ → List ℕ) → World
-world_at_start settings bodies = record { names = []; bodies = bodies; opens = []; desk = new_desk; settings = settings }
+world_at_start settings bodies = record { names = []; bodies = bodies; opens = []; hulls = λ k. None; desk = new_desk; settings = settings; moment = 0 }
 
 -- contexts
 
@@ -84,14 +94,31 @@ module _ {V : Type 0} where
 abbrev pub with_body : ℕ → List ℕ → (ℕ → List ℕ) → ℕ → List ℕ
 with_body k body bodies j = if j == k then body else bodies j
 
+abbrev pub with_hull : ℕ → Option ClosedHull → (ℕ → Option ClosedHull) → ℕ → Option ClosedHull
+with_hull k lost hulls j = if j == k then lost else hulls j
+
+-- what a file is judged by
+abbrev pub world_terms : World → Option ClosedHull → Terms
+world_terms w lost = record { settings = w.settings; moment = w.moment; lost = lost }
+
 abbrev pub part_of_file : ℕ → World → Part
-part_of_file k w = record { body = w.bodies k; opened = entry_at k w.opens; desk = w.desk; settings = w.settings }
+part_of_file k w = record { body = w.bodies k; opened = entry_at k w.opens; desk = w.desk; terms = world_terms w (w.hulls k) }
 
 abbrev pub with_part : ℕ → Part → World → World
-with_part k p w = record w { bodies = with_body k p.body w.bodies; opens = put_at k p.opened w.opens; desk = p.desk; settings = p.settings }
+with_part k p w = record w {
+  bodies = with_body k p.body w.bodies;
+  opens = put_at k p.opened w.opens;
+  hulls = with_hull k p.terms.lost w.hulls;
+  desk = p.desk;
+  settings = p.terms.settings;
+  moment = p.terms.moment;
+}
 
 abbrev pub desk_part : World → Part
-desk_part w = record { body = []; opened = None; desk = w.desk; settings = w.settings }
+desk_part w = record { body = []; opened = None; desk = w.desk; terms = world_terms w None }
+
+abbrev pub with_desk_part : Part → World → World
+with_desk_part p w = record w { desk = p.desk; settings = p.terms.settings; moment = p.terms.moment }
 
 -- what each body holds
 abbrev pub world_bodies : World → ℕ → List ℕ
@@ -124,6 +151,8 @@ target_by_state settings names opens (HangUp conn) = OnDesk (act.HangUp conn)
 target_by_state settings names opens (TurnOf file) = OnFile file TurnFile
 target_by_state settings names opens (PumpOf file) = OnFile file PumpFile
 target_by_state settings names opens (SyncOf file) = OnFile file SyncFile
+target_by_state settings names opens (TickBy milliseconds) = OnTick milliseconds
+target_by_state settings names opens (TickOf file) = OnFile file (TickFile file)
 
 abbrev pub target_in : World → Operation → Target
 target_in w operation = target_by_state w.settings w.names w.opens operation
@@ -138,9 +167,29 @@ pub record WorldResult : Type 0 where
 abbrev pub world_result : World → PartResult → WorldResult
 world_result w s = record { world = w; text = s.text; stopped = s.stopped; ahead = s.ahead }
 
+abbrev pub result_then : Bool → WorldResult → WorldResult → WorldResult
+result_then true s later = s
+result_then false s later = record later { text = s.text ++ later.text }
+
+abbrev pub file_result : ℕ → Act → World → Outcomes → WorldResult
+file_result k act w t = let s = next_part (part_of_file k w) act t in world_result (with_part k s.part w) s
+
+abbrev pub desk_result : Act → World → Outcomes → WorldResult
+desk_result act w t = let s = next_part (desk_part w) act t in world_result (with_desk_part s.part w) s
+
+-- a tick comes to files, one after another
+abbrev pub ticks_result : List ℕ → World → Outcomes → WorldResult
+ticks_result [] w t = record { world = w; text = []; stopped = false; ahead = t }
+ticks_result (k ∷ ks) w t = let s = file_result k (TickFile k) w t in result_then s.stopped s (ticks_result ks s.world s.ahead)
+
+-- the numbers of open files, rising
+abbrev pub open_files : {V : Type 0} → List (ℕ × V) → List ℕ
+open_files es = map (λ e. e.0) es
+
 abbrev pub target_result : Target → World → Outcomes → WorldResult
-target_result (OnFile k act) w t = let s = next_part (part_of_file k w) act t in world_result (with_part k s.part w) s
-target_result (OnDesk act) w t = let s = next_part (desk_part w) act t in world_result (record w { desk = s.part.desk; settings = s.part.settings }) s
+target_result (OnFile k act) w t = file_result k act w t
+target_result (OnDesk act) w t = desk_result act w t
+target_result (OnTick milliseconds) w t = let s = desk_result (BeginTick milliseconds) w t in result_then s.stopped s (ticks_result (open_files w.opens) s.world s.ahead)
 target_result OnNothing w t = record { world = w; text = []; stopped = false; ahead = t }
 
 abbrev pub with_names : List (List ℕ × ℕ) → WorldResult → WorldResult
@@ -150,10 +199,6 @@ unfoldable pub next : World → Operation → Outcomes → WorldResult
 next w operation t = with_names (names_after operation w.names) (target_result (target_in w operation) w t)
 
 -- operations
-
-abbrev pub result_then : Bool → WorldResult → WorldResult → WorldResult
-result_then true s later = s
-result_then false s later = record later { text = s.text ++ later.text }
 
 -- the fold of `next`, up to where a failed call ends it
 abbrev pub operations_result : World → List Operation → Outcomes → WorldResult

@@ -19,6 +19,7 @@ ghost use Rattle.nfs_procs.specs.Contexts.{ProgramState, StoreState, initial_sta
 ghost use Rattle.nfs_procs.specs.Contexts.{world_scene, world_scene_of, AreBodiesPlaced, AreBodiesSafe, ChangesPart, HasTarget, IsContextKept};
 ghost use Rattle.nfs_procs.specs.Contexts.{IsCutOff, IsDone, IsOperation, IsServed, LossesStay, ObjectsStay, SameLosses, StaysThere};
 
+use crate::hulls::{Hulls, lost_of};
 use crate::served::Served;
 use append_store::Cluster;
 use bytes::Bytes;
@@ -41,13 +42,14 @@ use std::marker::Model;
 const FIRST_FILE: u64 = 4;
 
 /// The names of the files in the root, the contexts of the files by their numbers, the requests that wait for an answer, the
-/// outcomes that were noted, and the settings of the gateway.
+/// outcomes that were noted, the settings of the gateway and the moment, and what was lost of files that were closed.
 #[derive(Drop)]
 pub struct World<C: Cluster> {
-    alloc: Global,
-    names: BTreeMap<Bytes, u64>,
-    cells: BTreeMap<u64, FileCell<C::File, TreeMap>>,
-    tracker: RequestTracker,
+    pub(crate) alloc: Global,
+    pub(crate) names: BTreeMap<Bytes, u64>,
+    pub(crate) cells: BTreeMap<u64, FileCell<C::File, TreeMap>>,
+    pub(crate) tracker: RequestTracker,
+    pub(crate) hulls: Hulls,
 }
 
 impl<C: Cluster> Model for World<C> {
@@ -55,7 +57,7 @@ impl<C: Cluster> Model for World<C> {
 
     ghost Value = { ProgramState };
 
-    ghost view = { λ w. record { names = w.names.entries; cells = w.cells.entries; tracker = w.tracker } };
+    ghost view = { λ w. record { names = w.names.entries; cells = w.cells.entries; tracker = w.tracker; hulls = w.hulls.entries } };
 
     ghost invariant = { λ w. AreCellsReady w.tracker.settings.limits w.cells.entries };
 }
@@ -72,6 +74,7 @@ impl<C: Cluster> World<C> {
             names: BTreeMap::new(alloc),
             cells: BTreeMap::new(alloc),
             tracker: RequestTracker::new(alloc, config),
+            hulls: BTreeMap::new(alloc),
         }
     }
 
@@ -340,12 +343,14 @@ impl<C: Cluster> World<C> {
         ensures event { self.new.tracker.noted.event ≡ self.old.tracker.noted.event }
         ensures settings { self.new.tracker.settings ≡ self.old.tracker.settings }
     {
+        let lost = lost_of(&self.hulls, file);
         match self.cells.entry(file) {
             Ok(Entry::Vacant(place)) => {
                 let FirstWrite { cell, text } = first_write(
                     conn,
                     file,
                     call,
+                    lost,
                     &mut self.tracker,
                     cluster,
                 );
@@ -484,7 +489,12 @@ impl<C: Cluster> World<C> {
     {
         match self.cells.get_mut(&file) {
             Some(cell) => commit_cell(conn, call, cell, &mut self.tracker),
-            None => commit_closed(conn, call, &mut self.tracker),
+            None => commit_closed(
+                conn,
+                call,
+                lost_of(&self.hulls, file),
+                &mut self.tracker,
+            ),
         }
     }
 

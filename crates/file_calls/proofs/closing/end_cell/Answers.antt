@@ -10,8 +10,10 @@ returns-clause-history g c =
     let spelled = ap (λ (k : FileId). history_text k.0 (history_of_ended e Closed)) c.into_parts-body.ensures.ended.id ∙ ap (λ k. history_text k (history_of_ended e Closed)) c.requires.id in
     record {
       text = history_text e.id.0 (history_of_ended e Closed);
-      history = history_of_ended e Closed;
-      spelled = spelled;
-      is = λ f h. spelled ∙ ap (history_text c.args.file) (c.into_parts-body.ensures.history f Closed h);
+      is = record {
+        history = history_of_ended e Closed;
+        spelled = spelled;
+        is = λ f h. spelled ∙ ap (history_text c.args.file) (c.into_parts-body.ensures.history f Closed h);
+      };
       written = c.closed_text.ensures;
     }

@@ -1,4 +1,4 @@
-use Rattle.std.proofs.Common.{◌≡◌, [], ◌∷◌, ◌++◌, ◌∙◌, ap, subst}
+use Rattle.std.proofs.Common.{◌≡◌, [], ◌∷◌, ◌++◌, ◌∙◌, ap, refl, subst}
 use Rattle.gw_model.specs.Ahead.{Good, Bad}
 use Rattle.writeback.specs.Steps.{Leaves}
 use Rattle.writeback.specs.declared.owed.Synced.TheVariants.{Done, Failed}
@@ -8,7 +8,7 @@ use Rattle.gw_config.specs.Seen.{settings_in}
 use Rattle.file_cell.specs.State.{CellState}
 use Rattle.file_calls.specs.Outside.{TrackerState}
 use Rattle.file_calls.specs.Part.{send_result}
-use Rattle.file_calls.proofs.PartTicks.{closes_idle, gives_up, is_leaving, judged_closes, judged_gives_up, judged_stays, passes_by, stay_of, stays_open}
+use Rattle.file_calls.proofs.PartTicks.{closes_idle, gives_up, is_leaving, judged_closes, judged_gives_up, judged_stays, passes_by, stays_open}
 use Rattle.file_calls.proofs.Results.{with_ok}
 use Rattle.file_calls.proofs.closing.tick_cell.Goals as goal
 use Rattle.file_calls.proofs.closing.tick_cell.Goals.{in-Done, in-Failed}
@@ -23,7 +23,7 @@ returns-in-Nothing-clause-visit g c = λ file lost s.
     let old = c.args.cell.now in
     let t : TrackerState = record { desk = c.tracker.inside.desk; noted = c.tracker.inside.trace; settings = settings_in c.tracker.inside.config; moment = c.tracker.inside.moment } in
     let limits : old.limits ≡ t.settings.limits = rw (← c.tracker.view_is) at c.requires.limits in
-    rw (← c.tracker.view_is) (passes_by g.F.AppendFile.tells file lost old c.tick.new.self t s limits (judged_stays _ c.in-Nothing.ensures.judged) c.in-Nothing.ensures.step _ c.new.ensures.bytes)
+    rw (← c.tracker.view_is) (record { text = []; is = passes_by g.F.AppendFile.tells file lost old c.tick.new.self t s limits (judged_stays _ c.in-Nothing.ensures.judged) c.in-Nothing.ensures.step [] refl; written = c.new.ensures.bytes })
 
 pub returns-in-GaveUp-clause-visit : goal.returns-in-GaveUp-clause-visit
 returns-in-GaveUp-clause-visit g c = λ file lost s.
@@ -32,8 +32,11 @@ returns-in-GaveUp-clause-visit g c = λ file lost s.
     let t : TrackerState = record { desk = c.tracker.inside.desk; noted = c.tracker.inside.trace; settings = settings_in c.tracker.inside.config; moment = c.tracker.inside.moment } in
     let limits : old.limits ≡ t.settings.limits = rw (← c.tracker.view_is) at c.requires.limits in
     let step = gives_up g.F.AppendFile.tells file lost old new t s limits (judged_gives_up _ c.in-GaveUp.ensures.judged) (ap (λ (x : CellState). x.file) c.in-GaveUp.ensures.step) c.tick.ensures.stands in
-    rw (← c.tracker.view_is, c.send_left.ensures.none_left, c.send_left.ensures.desk) (stay_of g.F.AppendFile.tells c.send_left.result file lost s old _ t _ _ step
-    (with_ok c.send_left.result (λ x is. is ∙ ap (λ y. y ++ (send_result t.desk new.left).text) c.new-in-GaveUp.ensures.bytes) c.send_left.ensures.text))
+    rw (← c.tracker.view_is, c.send_left.ensures.none_left, c.send_left.ensures.desk) (record {
+      text = (send_result t.desk new.left).text;
+      is = step;
+      written = with_ok c.send_left.result (λ x is. is ∙ ap (λ y. y ++ (send_result t.desk new.left).text) c.new-in-GaveUp.ensures.bytes) c.send_left.ensures.text;
+    })
 
 pub returns-after-close_step-clause-visit : goal.returns-after-close_step-clause-visit
 returns-after-close_step-clause-visit g c =
@@ -49,7 +52,11 @@ returns-after-close_step-clause-visit g c =
           (subst (λ (x : CellState). ClosesFor g.F.AppendFile.tells Done x new) still w.in-Done.ensures.stands)
           )
       | in-Failed w ↦ rw (w.result-is, ← c.tracker.view_is, w.in-Failed.ensures.notes) (
-          λ file lost s. stays_open g.F.AppendFile.tells file lost old new t s limits judged (subst (λ (x : CellState). Leaves g.F.AppendFile.tells [] (Bad 0 ∷ []) x.file new.file) still w.in-Failed.ensures.file)
-          (subst (λ (x : CellState). ClosesFor g.F.AppendFile.tells Failed x new) still w.in-Failed.ensures.stands) _ w.new-in-Failed.ensures.bytes
+          λ file lost s. record {
+            text = [];
+            is = stays_open g.F.AppendFile.tells file lost old new t s limits judged (subst (λ (x : CellState). Leaves g.F.AppendFile.tells [] (Bad 0 ∷ []) x.file new.file) still w.in-Failed.ensures.file)
+                (subst (λ (x : CellState). ClosesFor g.F.AppendFile.tells Failed x new) still w.in-Failed.ensures.stands) [] refl;
+            written = w.new-in-Failed.ensures.bytes;
+          }
           )
     ]

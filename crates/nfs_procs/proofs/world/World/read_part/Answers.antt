@@ -7,6 +7,7 @@ use Rattle.file_calls.specs.Outside.{store_view}
 use Rattle.nfs_procs.specs.World.{entry_at}
 use Rattle.nfs_procs.proofs.ContextMaps.{found_set}
 use Rattle.nfs_procs.proofs.ContextReady.{ready_at, ready_set}
+use Rattle.nfs_procs.specs.Contexts.{lost_at}
 use Rattle.nfs_procs.proofs.world.World.read_part.Goals as goal
 
 pub read_cell-requires : goal.read_cell-requires
@@ -17,18 +18,18 @@ invariant_of-self g c =
     let there : entry_at c.args.file c.self.inside.cells.entries ≡ Some c.in-Some.cell.now = sym c.get_mut.ensures.value ∙ ap option_copied_mut c.in-Some.is in
     let set : (c.get_mut.follows.lender c.read_cell.new.cell).entries ≡ set_value (is_at (nat_cmp c.args.file)) c.self.inside.cells.entries c.read_cell.new.cell = (c.get_mut.follows.holds c.read_cell.new.cell).0 in
     let ready = c.read_cell.ensures.ready c.self.inside.tracker.settings.limits c.args.file (ready_at c.self.inside.tracker.settings.limits c.args.file c.self.inside.cells.entries c.in-Some.cell.now c.self.invariant there) in
-    rw (set, c.read_cell.ensures.settings) (ready_set c.self.inside.tracker.settings.limits c.args.file c.self.inside.cells.entries c.read_cell.new.cell c.self.invariant ready)
+    rw (set, c.read_cell.ensures.terms.0) (ready_set c.self.inside.tracker.settings.limits c.args.file c.self.inside.cells.entries c.read_cell.new.cell c.self.invariant ready)
 
 pub returns-in-Some-clause-ok : goal.returns-in-Some-clause-ok
 returns-in-Some-clause-ok g c =
     let there : entry_at c.args.file c.self.inside.cells.entries ≡ Some c.in-Some.cell.now = sym c.get_mut.ensures.value ∙ ap option_copied_mut c.in-Some.is in
     let set : (c.get_mut.follows.lender c.read_cell.new.cell).entries ≡ set_value (is_at (nat_cmp c.args.file)) c.self.inside.cells.entries c.read_cell.new.cell = (c.get_mut.follows.holds c.read_cell.new.cell).0 in
     let after : entry_at c.args.file (c.get_mut.follows.lender c.read_cell.new.cell).entries ≡ Some c.read_cell.new.cell = ap (entry_at c.args.file) set ∙ found_set (is_at (nat_cmp c.args.file)) c.self.inside.cells.entries c.in-Some.cell.now c.read_cell.new.cell there in
-    rw (← c.self.view_is, there, after) (c.read_cell.ensures.ok (store_view c.args.file g.C.Cluster c.args.cluster.now))
+    rw (← c.self.view_is, there, after) (c.read_cell.ensures.ok (lost_at c.args.file c.self.inside.hulls.entries) (store_view c.args.file g.C.Cluster c.args.cluster.now))
 
 pub returns-in-Some-clause-err : goal.returns-in-Some-clause-err
 returns-in-Some-clause-err g c =
     let there : entry_at c.args.file c.self.inside.cells.entries ≡ Some c.in-Some.cell.now = sym c.get_mut.ensures.value ∙ ap option_copied_mut c.in-Some.is in
     let set : (c.get_mut.follows.lender c.read_cell.new.cell).entries ≡ set_value (is_at (nat_cmp c.args.file)) c.self.inside.cells.entries c.read_cell.new.cell = (c.get_mut.follows.holds c.read_cell.new.cell).0 in
     let after : entry_at c.args.file (c.get_mut.follows.lender c.read_cell.new.cell).entries ≡ Some c.read_cell.new.cell = ap (entry_at c.args.file) set ∙ found_set (is_at (nat_cmp c.args.file)) c.self.inside.cells.entries c.in-Some.cell.now c.read_cell.new.cell there in
-    rw (← c.self.view_is, there, after) (c.read_cell.ensures.err (store_view c.args.file g.C.Cluster c.args.cluster.now))
+    rw (← c.self.view_is, there, after) (c.read_cell.ensures.err (lost_at c.args.file c.self.inside.hulls.entries) (store_view c.args.file g.C.Cluster c.args.cluster.now))

@@ -7,12 +7,12 @@ use Rattle.nfs_procs.proofs.world.World.reply_now.Goals as goal
 
 pub returns-clause-ok : goal.returns-clause-ok
 returns-clause-ok g c = λ operation aim s.
-    let old : ProgramState = record { names = c.self.inside.names.entries; cells = c.self.inside.cells.entries; tracker = c.self.inside.tracker } in
+    let old : ProgramState = record { names = c.self.inside.names.entries; cells = c.self.inside.cells.entries; tracker = c.self.inside.tracker; hulls = c.self.inside.hulls.entries } in
     let at = rw (← c.self.view_is) at aim in
-    rw (← c.self.view_is) (with_ok c.reply_now.result (λ text step. desk_done g.C.File.AppendFile.tells operation (Reply c.args.conn c.args.xid c.args.reply.now) old _ s at.0 (sym at.1) refl (string_bytes text) false step) (c.reply_now.ensures.ok None (desk_store old s)))
+    rw (← c.self.view_is) (with_ok c.reply_now.result (λ text step. desk_done g.C.File.AppendFile.tells operation (Reply c.args.conn c.args.xid c.args.reply.now) old _ s at.0 (sym at.1) refl refl (string_bytes text) false step) (c.reply_now.ensures.ok None None (desk_store old s)))
 
 pub returns-clause-err : goal.returns-clause-err
 returns-clause-err g c = λ operation aim s.
-    let old : ProgramState = record { names = c.self.inside.names.entries; cells = c.self.inside.cells.entries; tracker = c.self.inside.tracker } in
+    let old : ProgramState = record { names = c.self.inside.names.entries; cells = c.self.inside.cells.entries; tracker = c.self.inside.tracker; hulls = c.self.inside.hulls.entries } in
     let at = rw (← c.self.view_is) at aim in
-    rw (← c.self.view_is) (with_err c.reply_now.result (λ step. desk_cut g.C.File.AppendFile.tells operation (Reply c.args.conn c.args.xid c.args.reply.now) old _ s at.0 (sym at.1) refl step) (c.reply_now.ensures.err None (desk_store old s)))
+    rw (← c.self.view_is) (with_err c.reply_now.result (λ step. desk_cut g.C.File.AppendFile.tells operation (Reply c.args.conn c.args.xid c.args.reply.now) old _ s at.0 (sym at.1) refl refl step) (c.reply_now.ensures.err None None (desk_store old s)))

@@ -4,18 +4,20 @@ use Rattle.nfs_procs.specs.World.{SyncOf}
 use Rattle.nfs_procs.specs.Contexts.{body_store}
 use Rattle.nfs_procs.proofs.ContextBodies.{kept_same, placed_same}
 use Rattle.file_calls.proofs.Results.{with_ok, with_err}
+use Rattle.nfs_procs.proofs.ContextCounts.{others_kept}
+use Rattle.nfs_procs.proofs.ContextMaps.{hulls_same}
 use Rattle.nfs_procs.proofs.ContextParts.{part_done, part_cut}
 use Rattle.nfs_procs.proofs.world.World.sync.Goals as goal
 
 pub returns-clause-ok : goal.returns-clause-ok
 returns-clause-ok g c = λ s.
     let e = c.sync_part.ensures in
-    with_ok c.sync_part.result (λ text step. part_done g.C.File.AppendFile.tells (SyncOf c.args.file) c.args.file SyncFile _ _ s s refl e.part.names e.part.cells (kept_same _ _ e.same) (λ told q apart. (refl, refl)) (string_bytes text) _ step) (e.ok (body_store c.args.file s))
+    with_ok c.sync_part.result (λ text step. part_done g.C.File.AppendFile.tells (SyncOf c.args.file) c.args.file SyncFile _ _ s s refl e.part.names e.part.cells (others_kept c.args.file _ _ e.part.cells (kept_same _ _ e.same)) (hulls_same c.args.file _ _ e.part.hulls) (λ told q apart. (refl, refl)) (string_bytes text) _ step) (e.ok (body_store c.args.file s))
 
 pub returns-clause-err : goal.returns-clause-err
 returns-clause-err g c = λ s.
     let e = c.sync_part.ensures in
-    with_err c.sync_part.result (λ step. part_cut g.C.File.AppendFile.tells (SyncOf c.args.file) c.args.file SyncFile _ _ s s refl e.part.names e.part.cells (kept_same _ _ e.same) (λ told q apart. (refl, refl)) step) (e.err (body_store c.args.file s))
+    with_err c.sync_part.result (λ step. part_cut g.C.File.AppendFile.tells (SyncOf c.args.file) c.args.file SyncFile _ _ s s refl e.part.names e.part.cells (others_kept c.args.file _ _ e.part.cells (kept_same _ _ e.same)) (hulls_same c.args.file _ _ e.part.hulls) (λ told q apart. (refl, refl)) step) (e.err (body_store c.args.file s))
 
 pub returns-clause-placed : goal.returns-clause-placed
 returns-clause-placed g c = λ at h.

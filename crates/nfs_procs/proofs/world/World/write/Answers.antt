@@ -3,18 +3,20 @@ use Rattle.file_calls.specs.Acts.{WriteFile}
 use Rattle.nfs_procs.specs.Contexts.{store_state}
 use Rattle.nfs_procs.proofs.ContextBodies.{losses_same, objects_stay, placed_home, stays_there}
 use Rattle.file_calls.proofs.Results.{with_ok, with_err}
+use Rattle.nfs_procs.proofs.ContextCounts.{others_kept}
+use Rattle.nfs_procs.proofs.ContextMaps.{hulls_same}
 use Rattle.nfs_procs.proofs.ContextParts.{part_done, part_cut}
 use Rattle.nfs_procs.proofs.world.World.write.Goals as goal
 
 pub returns-clause-ok : goal.returns-clause-ok
 returns-clause-ok g c = λ operation aim.
     let e = c.write_part.ensures in
-    with_ok c.write_part.result (λ text step. part_done g.C.File.AppendFile.tells operation c.args.file (WriteFile c.args.conn c.args.call) _ _ (store_state g.C.Cluster c.args.cluster.now) (store_state g.C.Cluster c.write_part.new.cluster) aim.0 (e.part.names ∙ sym aim.1) e.part.cells e.keeps e.others (string_bytes text) _ step) e.ok
+    with_ok c.write_part.result (λ text step. part_done g.C.File.AppendFile.tells operation c.args.file (WriteFile c.args.conn c.args.call) _ _ (store_state g.C.Cluster c.args.cluster.now) (store_state g.C.Cluster c.write_part.new.cluster) aim.0 (e.part.names ∙ sym aim.1) e.part.cells (others_kept c.args.file _ _ e.part.cells e.keeps) (hulls_same c.args.file _ _ e.part.hulls) e.others (string_bytes text) _ step) e.ok
 
 pub returns-clause-err : goal.returns-clause-err
 returns-clause-err g c = λ operation aim.
     let e = c.write_part.ensures in
-    with_err c.write_part.result (λ step. part_cut g.C.File.AppendFile.tells operation c.args.file (WriteFile c.args.conn c.args.call) _ _ (store_state g.C.Cluster c.args.cluster.now) (store_state g.C.Cluster c.write_part.new.cluster) aim.0 (e.part.names ∙ sym aim.1) e.part.cells e.keeps e.others step) e.err
+    with_err c.write_part.result (λ step. part_cut g.C.File.AppendFile.tells operation c.args.file (WriteFile c.args.conn c.args.call) _ _ (store_state g.C.Cluster c.args.cluster.now) (store_state g.C.Cluster c.write_part.new.cluster) aim.0 (e.part.names ∙ sym aim.1) e.part.cells (others_kept c.args.file _ _ e.part.cells e.keeps) (hulls_same c.args.file _ _ e.part.hulls) e.others step) e.err
 
 pub returns-clause-placed_after : goal.returns-clause-placed_after
 returns-clause-placed_after g c =
