@@ -1,7 +1,7 @@
 -- The steps of the gateway, event by event.
 use Rattle.std.proofs.Common.{◌≡◌, ℕ, ◌-◌, ◌^◌, ◌<◌, false, List, [], ◌∷◌, refl, Result, Ok, Err, IfOk, OnErr, String, Global, string_bytes}
 use Rattle.std.specs.declared.alloc.AllocError.{AllocError}
-use Rattle.nfs_procs.specs.World.{Operation, CreateNamed, HangUp as HangUpOf, TurnOf, PumpOf, SyncOf}
+use Rattle.nfs_procs.specs.World.{Operation, CreateNamed, HangUp as HangUpOf, TurnOf, PumpOf, SyncOf, TickBy}
 use Rattle.nfs_procs.specs.Contexts.{ProgramState, StoreState, WorldScene, world_scene, IsDone, IsCutOff, IsOperation, Cuts}
 use Rattle.gateway.specs.Links.{Links, AreLinks, SetsLink, arrival, hearing_at}
 use Rattle.gateway.specs.Steps.{IsReceived, IsEventStep}
@@ -10,7 +10,7 @@ use Rattle.gateway.specs.declared.link.Link.TheVariants.{Open}
 use Rattle.file_calls.specs.declared.part.StepResult.{StepResult}
 use Rattle.file_calls.specs.declared.part.StepResult.TheVariants as stepped
 use Rattle.gateway.specs.declared.event.Event.{Event}
-use Rattle.gateway.specs.declared.event.Event.TheVariants.{MakeFile, Bytes, Turn, Pump, Sync, HangUp}
+use Rattle.gateway.specs.declared.event.Event.TheVariants.{MakeFile, Bytes, Turn, Pump, Sync, Tick, HangUp}
 use Rattle.nfs_procs.proofs.WorldOperations.{begun, begin_cut, cuts_one, does_begin, does_one, stops_one}
 
 -- a file is made
@@ -60,6 +60,11 @@ module _ (tells : Type 0) (r : Result (String Global) AllocError) (result : Step
       → (links : Links) → AreLinks kept links → IsEventStep tells result (Sync file) links kept old new
   unfolding arrival
   sync_stepped file s u links are = one_stepped links are (Sync file) (SyncOf file) refl are s u
+
+  pub tick_stepped : (milliseconds : ℕ) → IfOk r (λ t. IsDone tells (TickBy milliseconds) old new (string_bytes t) false) → OnErr r (IsCutOff tells (TickBy milliseconds) old new)
+      → (links : Links) → AreLinks kept links → IsEventStep tells result (Tick milliseconds) links kept old new
+  unfolding arrival
+  tick_stepped milliseconds s u links are = one_stepped links are (Tick milliseconds) (TickBy milliseconds) refl are s u
 
 -- a connection is hung up
 pub hung_up_stepped : (tells : Type 0) (text : String Global) (conn : ℕ) (before after : List (ℕ × Link)) (old new : WorldScene) → string_bytes text ≡ [] → SetsLink conn (Open []) before after → IsDone tells (HangUpOf conn) old new [] false

@@ -2,7 +2,7 @@
 use Rattle.std.specs.Prelude.{◌≡◌, ℕ, ◌==◌, if◌then◌else◌, Bool, true, false, List, [], ◌∷◌, ◌++◌, Option, Some, None}
 use Rattle.rpc_record.specs.Records.{End, Rest, Broken, records}
 use Rattle.file_requests.specs.Targets.{ends_connection}
-use Rattle.nfs_procs.specs.World.{Operation, CreateNamed, StartEvent, Serve, Break, HangUp, TurnOf, PumpOf, SyncOf, entry_at}
+use Rattle.nfs_procs.specs.World.{Operation, CreateNamed, StartEvent, Serve, Break, HangUp, TurnOf, PumpOf, SyncOf, TickBy, entry_at}
 use Rattle.gateway.specs.declared.link.Link.{Link}
 use Rattle.gateway.specs.declared.link.Link.TheVariants.{Open, Closed}
 use Rattle.gateway.specs.declared.event.Event.{Event}
@@ -58,6 +58,7 @@ arrival links (event.Bytes conn piece) = piece_arrival conn (hearing_on (links c
 arrival links (event.Turn file) = record { operations = TurnOf file ∷ []; links = links }
 arrival links (event.Pump file) = record { operations = PumpOf file ∷ []; links = links }
 arrival links (event.Sync file) = record { operations = SyncOf file ∷ []; links = links }
+arrival links (event.Tick milliseconds) = record { operations = TickBy milliseconds ∷ []; links = links }
 arrival links (event.HangUp conn) = record { operations = HangUp conn ∷ []; links = with_link conn (Open []) links }
 
 -- what the events of a transcript ask for

@@ -44,6 +44,8 @@ pub enum Event<'a> {
     Pump(u64),
     /// What an open file has stored is made durable.
     Sync(u64),
+    /// So many milliseconds are gone: each open file is judged, and closed where it is to be.
+    Tick(u32),
     /// A connection hangs up: none of its requests is answered any more.
     HangUp(u32),
 }

@@ -169,6 +169,7 @@ impl<C: Cluster> Gateway<C> {
             Event::Turn(file) => step_result(self.world.turn(file)),
             Event::Pump(file) => step_result(self.world.pump(file)),
             Event::Sync(file) => step_result(self.world.sync(file)),
+            Event::Tick(milliseconds) => step_result(self.world.tick(milliseconds, cluster)),
             Event::HangUp(conn) => {
                 forget_link(&mut self.links, conn);
                 self.world.hang_up(conn);

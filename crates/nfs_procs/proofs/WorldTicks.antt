@@ -1,11 +1,9 @@
 -- A tick comes to a file, to all open files, and is an operation of the world.
-use Rattle.std.proofs.Common.{◌≡◌, ℕ, ◌-◌, ◌^◌, ◌<◌, Bool, true, false, Option, Some, None, List, [], ◌∷◌, ◌++◌, map, Result, Ok, Err, refl, sym, ◌∙◌, ap, subst, append_assoc, append-nil, inr, string_bytes}
+use Rattle.std.proofs.Common.{◌≡◌, ℕ, ◌-◌, ◌^◌, ◌<◌, false, List, [], ◌∷◌, ◌++◌, map, Result, Ok, Err, refl, sym, ◌∙◌, ap, subst, append_assoc, append-nil, inr, string_bytes}
 use Rattle.std.specs.Prelude.{IfOk, IsErr, OnErr, String}
 use Rattle.std.specs.Global.{Global}
-use Rattle.gw_model.specs.Ahead.{Outcomes, Outcome}
-use Rattle.gw_model.specs.File.{File}
-use Rattle.gw_model.specs.Views.{TraceState, next_event}
-use Rattle.append_store.specs.State.{bytes_of}
+use Rattle.gw_model.specs.Ahead.{Outcomes}
+use Rattle.gw_model.specs.Views.{next_event}
 use Rattle.file_cell.specs.State.{CellState}
 use Rattle.file_cell.specs.Files.{StandsFor}
 use Rattle.file_calls.specs.Outside.{IsAfter, TrackerState, ahead_at}
@@ -14,7 +12,6 @@ use Rattle.file_calls.specs.OneReply.{Speaks}
 use Rattle.file_calls.specs.Counts.{IsCounted}
 use Rattle.file_calls.specs.Terms.{later_moment}
 use Rattle.file_calls.specs.Ticks.{Makes}
-use Rattle.tickets.specs.Desk.{DeskState}
 use Rattle.nfs_procs.specs.World.{World, WorldResult, Operation, TickBy, TickOf, next, open_files, operations_result, result_then, ticks_result, with_names}
 use Rattle.nfs_procs.specs.Contexts.{AllSame, Does, IsCutOff, IsDone, IsWorld, LeavesWorld, ProgramState, StoreState, WorldScene, lost_at, world_scene}
 use Rattle.nfs_procs.specs.Ticks.{TicksFront}
@@ -106,9 +103,9 @@ module _ (tells : Type 0) (milliseconds : ℕ) (h mid new : ProgramState) (s s' 
         let l = d.result told v (begun_world w is) later fine in
         let whole : next w (TickBy milliseconds) t ≡ with_names w.names r
         = next_is_ticks w milliseconds t ∙ ap (with_names w.names) (
-          ap (λ ks. ticks_result ks v (at_event t)) (sym (open_same StandsFor h.cells w.opens is.opens) ∙ sym is_files)
-          ∙ ticks_are files v (at_event t)
-          ∙ ap (λ (x : TrackerState). operations_result v (map TickOf files) (ahead_at x.noted (d.outcomes ++ later))) (sym tracker)
+        ap (λ ks. ticks_result ks v (at_event t)) (sym (open_same StandsFor h.cells w.opens is.opens) ∙ sym is_files)
+        ∙ ticks_are files v (at_event t)
+        ∙ ap (λ (x : TrackerState). operations_result v (map TickOf files) (ahead_at x.noted (d.outcomes ++ later))) (sym tracker)
         ) in
         subst (LeavesWorld (world_scene new s') text false later) (sym whole) (record {
           world = record {

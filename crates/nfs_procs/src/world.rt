@@ -489,12 +489,7 @@ impl<C: Cluster> World<C> {
     {
         match self.cells.get_mut(&file) {
             Some(cell) => commit_cell(conn, call, cell, &mut self.tracker),
-            None => commit_closed(
-                conn,
-                call,
-                lost_of(&self.hulls, file),
-                &mut self.tracker,
-            ),
+            None => commit_closed(conn, call, lost_of(&self.hulls, file), &mut self.tracker),
         }
     }
 

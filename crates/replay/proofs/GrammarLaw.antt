@@ -16,8 +16,8 @@ use Rattle.hex.specs.Hex.{decode_of}
 use Rattle.hex.specs.declared.error.FromHexError.{FromHexError}
 use Rattle.transcript.specs.Fields.{number_of, some_bytes}
 use Rattle.transcript.proofs.Numbers.{number_of-some, number_of-decimal}
-use Rattle.replay.specs.Grammar.{LinesBefore, IsLine, IsName, is_name, is_hung_up, file_line, bytes_line, piece_line, turn_line, pump_line, sync_line, hangup_line, grammar_line}
-use Rattle.gateway.specs.declared.event.Event.TheVariants.{MakeFile, Bytes, Turn, Pump, Sync, HangUp}
+use Rattle.replay.specs.Grammar.{LinesBefore, IsLine, IsName, is_name, is_hung_up, file_line, bytes_line, piece_line, turn_line, pump_line, sync_line, tick_line, hangup_line, grammar_line}
+use Rattle.gateway.specs.declared.event.Event.TheVariants.{MakeFile, Bytes, Turn, Pump, Sync, Tick, HangUp}
 use Rattle.replay.specs.declared.grammar.Line.{Line}
 use Rattle.replay.specs.declared.grammar.Line.TheVariants.{Go, End}
 use Rattle.replay.proofs.GrammarNames.{name_of_test, test_of_name}
@@ -79,9 +79,18 @@ sync_word : (before : LinesBefore) (rest : List ℕ) → grammar_line before (co
 unfolding grammar_line
 sync_word before rest = refl
 
+tick_word : (before : LinesBefore) (rest : List ℕ) → grammar_line before (codes "tick " ++ rest) ≡ tick_line (number_of 32 rest)
+unfolding grammar_line
+tick_word before rest = refl
+
 hangup_word : (before : LinesBefore) (rest : List ℕ) → grammar_line before (codes "hangup " ++ rest) ≡ hangup_line before (number_of 32 rest)
 unfolding grammar_line
 hangup_word before rest = refl
+
+tick_again : (milliseconds : ℕ) → milliseconds < 2 ^ 32 → tick_line (number_of 32 (decimal milliseconds)) ≡ Some (Go (Tick milliseconds))
+tick_again milliseconds c =
+    let wide : milliseconds < 2 ^ 64 = omega arith in
+    rw (number_of-decimal 32 milliseconds wide c) refl
 
 hangup_again : (before : LinesBefore) (conn : ℕ) → conn < 2 ^ 32 → is_hung_up conn before ≡ false → hangup_line before (number_of 32 (decimal conn)) ≡ Some (Go (HangUp conn))
 hangup_again before conn c u =
@@ -100,6 +109,7 @@ spelled before text (Go (Bytes conn bytes)) s =
 spelled before text (Go (Turn file)) s = ap (grammar_line before) s.0 ∙ turn_word before (decimal file) ∙ ap turn_line (number_of-decimal 64 file s.1 s.1)
 spelled before text (Go (Pump file)) s = ap (grammar_line before) s.0 ∙ pump_word before (decimal file) ∙ ap pump_line (number_of-decimal 64 file s.1 s.1)
 spelled before text (Go (Sync file)) s = ap (grammar_line before) s.0 ∙ sync_word before (decimal file) ∙ ap sync_line (number_of-decimal 64 file s.1 s.1)
+spelled before text (Go (Tick milliseconds)) s = ap (grammar_line before) s.0 ∙ tick_word before (decimal milliseconds) ∙ tick_again milliseconds s.1
 spelled before text (Go (HangUp conn)) s = ap (grammar_line before) s.0 ∙ hangup_word before (decimal conn) ∙ hangup_again before conn s.1 s.2
 spelled before text End s = ap (grammar_line before) s ∙ end_again before
 
@@ -153,6 +163,13 @@ sync_back before text rest (Some file) line w e h =
     let is : line ≡ Go (Sync file) = cc in
     subst (IsLine before text) (sym is) (w ∙ ap (λ x. codes "sync " ++ x) p.0, p.1)
 
+tick_back : (before : LinesBefore) (text rest : List ℕ) (n : Option ℕ) (line : Line) → text ≡ codes "tick " ++ rest → number_of 32 rest ≡ n → tick_line n ≡ Some line → IsLine before text line
+tick_back before text rest None line w e h = cc
+tick_back before text rest (Some milliseconds) line w e h =
+    let p = number_of-some 32 rest milliseconds e in
+    let is : line ≡ Go (Tick milliseconds) = cc in
+    subst (IsLine before text) (sym is) (w ∙ ap (λ x. codes "tick " ++ x) p.0, p.1)
+
 abbrev IsPiece : LinesBefore → List ℕ → Line → Type 0
 IsPiece before rest (Go (Bytes conn bytes)) =
     (hex : List ℕ) × (rest ≡ decimal conn ++ 32 ∷ hex) × (conn < 2 ^ 32) × (is_hung_up conn before ≡ false) × (decode_of hex ≡ Ok bytes) × (0 < length bytes)
@@ -182,6 +199,7 @@ bytes_whole before text (Go (MakeFile name)) w p = absurd p
 bytes_whole before text (Go (Turn file)) w p = absurd p
 bytes_whole before text (Go (Pump file)) w p = absurd p
 bytes_whole before text (Go (Sync file)) w p = absurd p
+bytes_whole before text (Go (Tick milliseconds)) w p = absurd p
 bytes_whole before text (Go (HangUp conn)) w p = absurd p
 bytes_whole before text End w p = absurd p
 
@@ -196,8 +214,11 @@ from_hangup before text = cond (starts_with nat_eq text (codes "hangup ")) (hang
 abbrev from_file : LinesBefore → List ℕ → Option Line
 from_file before text = cond (starts_with nat_eq text (codes "file ")) (file_line before (drop 5 text)) (from_hangup before text)
 
+abbrev from_tick : LinesBefore → List ℕ → Option Line
+from_tick before text = cond (starts_with nat_eq text (codes "tick ")) (tick_line (number_of 32 (drop 5 text))) (from_file before text)
+
 abbrev from_sync : LinesBefore → List ℕ → Option Line
-from_sync before text = cond (starts_with nat_eq text (codes "sync ")) (sync_line (number_of 64 (drop 5 text))) (from_file before text)
+from_sync before text = cond (starts_with nat_eq text (codes "sync ")) (sync_line (number_of 64 (drop 5 text))) (from_tick before text)
 
 abbrev from_pump : LinesBefore → List ℕ → Option Line
 from_pump before text = cond (starts_with nat_eq text (codes "pump ")) (pump_line (number_of 64 (drop 5 text))) (from_sync before text)
@@ -219,10 +240,15 @@ on_file : (before : LinesBefore) (text : List ℕ) (line : Line) (b : Bool) → 
 on_file before text line true t f = file_back before text line (word_front (codes "file ") text t) f
 on_file before text line false t f = on_hangup before text line (starts_with nat_eq text (codes "hangup ")) refl f
 
+on_tick : (before : LinesBefore) (text : List ℕ) (line : Line) (b : Bool) → starts_with nat_eq text (codes "tick ") ≡ b
+    → cond b (tick_line (number_of 32 (drop 5 text))) (from_file before text) ≡ Some line → IsLine before text line
+on_tick before text line true t f = tick_back before text (drop 5 text) (number_of 32 (drop 5 text)) line (word_front (codes "tick ") text t) refl f
+on_tick before text line false t f = on_file before text line (starts_with nat_eq text (codes "file ")) refl f
+
 on_sync : (before : LinesBefore) (text : List ℕ) (line : Line) (b : Bool) → starts_with nat_eq text (codes "sync ") ≡ b
-    → cond b (sync_line (number_of 64 (drop 5 text))) (from_file before text) ≡ Some line → IsLine before text line
+    → cond b (sync_line (number_of 64 (drop 5 text))) (from_tick before text) ≡ Some line → IsLine before text line
 on_sync before text line true t f = sync_back before text (drop 5 text) (number_of 64 (drop 5 text)) line (word_front (codes "sync ") text t) refl f
-on_sync before text line false t f = on_file before text line (starts_with nat_eq text (codes "file ")) refl f
+on_sync before text line false t f = on_tick before text line (starts_with nat_eq text (codes "tick ")) refl f
 
 on_pump : (before : LinesBefore) (text : List ℕ) (line : Line) (b : Bool) → starts_with nat_eq text (codes "pump ") ≡ b
     → cond b (pump_line (number_of 64 (drop 5 text))) (from_sync before text) ≡ Some line → IsLine before text line

@@ -12,9 +12,9 @@ use Rattle.file_cell.specs.State.{CellState}
 use Rattle.file_cell.specs.Files.{StandsFor}
 use Rattle.transcript.specs.Script.{Script, ScriptStop, AtEnd, AtBad, AtOpen}
 use Rattle.tickets.specs.Desk.{new_desk}
-use Rattle.file_calls.specs.OneReply.{Speaks}
+use Rattle.file_calls.specs.OneReply.{Speaks, histories_text}
 use Rattle.replay.specs.Spoken.{IsSpoken}
-use Rattle.nfs_procs.specs.Closing.{GivesAllBack, histories_text}
+use Rattle.nfs_procs.specs.Closing.{GivesAllBack}
 use Rattle.file_calls.specs.Counts.{Counts, IsCounted}
 use Rattle.gw_config.specs.Settings.{Settings}
 use Rattle.gw_config.specs.declared.fault.ConfigFault.{ConfigFault}

@@ -58,7 +58,7 @@ done_still tells xs old kept kept' b c os os' t t' e f g h d =
       after = d.after;
       result = λ told w is later i.
           let l = d.result told w is later i in
-          record { world = record { names = l.world.names; opens = l.world.opens; bodies = λ k. l.world.bodies k ∙ sym (f k); desk = l.world.desk; settings = l.world.settings }; text_is = l.text_is; stop = l.stop; ahead = l.ahead };
+          record { world = record { names = l.world.names; opens = l.world.opens; bodies = λ k. l.world.bodies k ∙ sym (f k); desk = l.world.desk; settings = l.world.settings; moment = l.world.moment; hulls = l.world.hulls }; text_is = l.text_is; stop = l.stop; ahead = l.ahead };
     })
 
 -- the ends of operations behind others
@@ -101,7 +101,7 @@ module _ (tells : Type 0) (event : Event) (links : Links) (old mid : GatewayStat
       after = d.passed.after;
       result = λ told w is later h.
           let l = d.result told w is later h in
-          record { world = record { names = l.world.names; opens = l.world.opens; bodies = l.world.bodies; desk = l.world.desk; settings = l.world.settings }; text_is = l.text_is; stop = l.stop; ahead = l.ahead };
+          record { world = record { names = l.world.names; opens = l.world.opens; bodies = l.world.bodies; desk = l.world.desk; settings = l.world.settings; moment = l.world.moment; hulls = l.world.hulls }; text_is = l.text_is; stop = l.stop; ahead = l.ahead };
     };
   }
 

@@ -180,7 +180,7 @@ reached_start tells settings o = record {
 }
 
 pub start_is : (settings : Settings) (o : Outside) → IsWorld (outside_scene (initial_state settings) o) (world_at_start settings o.bodies)
-start_is settings o = record { names = refl; opens = tt; bodies = λ k. refl; desk = refl; settings = refl }
+start_is settings o = record { names = refl; opens = tt; bodies = λ k. refl; desk = refl; settings = refl; moment = refl; hulls = λ k. refl }
 
 module _ (tells : Type 0) (settings : Settings) (a b c : Outside) (here there : Place) (r : Reached tells settings here a b) (t : Traffic) where
   -- the transcript with what was taken behind the first lines

@@ -8,7 +8,7 @@ use Rattle.hex.specs.Hex.{decode_of}
 use Rattle.transcript.specs.Fields.{number_of, hex_bytes}
 use Rattle.transcript.specs.Script.{LineReading, Last, Goes, Refused}
 use Rattle.gateway.specs.declared.event.Event.{Event}
-use Rattle.gateway.specs.declared.event.Event.TheVariants.{MakeFile, Bytes, Turn, Pump, Sync, HangUp}
+use Rattle.gateway.specs.declared.event.Event.TheVariants.{MakeFile, Bytes, Turn, Pump, Sync, Tick, HangUp}
 use Rattle.replay.specs.declared.grammar.Line.{Line}
 use Rattle.replay.specs.declared.grammar.Line.TheVariants.{Go, End}
 
@@ -46,6 +46,7 @@ IsLine before text (Go (Bytes conn bytes)) =
 IsLine _ text (Go (Turn file)) = (text ≡ codes "turn " ++ decimal file) × (file < 2 ^ 64)
 IsLine _ text (Go (Pump file)) = (text ≡ codes "pump " ++ decimal file) × (file < 2 ^ 64)
 IsLine _ text (Go (Sync file)) = (text ≡ codes "sync " ++ decimal file) × (file < 2 ^ 64)
+IsLine _ text (Go (Tick milliseconds)) = (text ≡ codes "tick " ++ decimal milliseconds) × (milliseconds < 2 ^ 32)
 IsLine before text (Go (HangUp conn)) = (text ≡ codes "hangup " ++ decimal conn) × (conn < 2 ^ 32) × (is_hung_up conn before ≡ false)
 IsLine _ text End = text ≡ codes "end"
 
@@ -82,9 +83,21 @@ abbrev pub sync_line : Option ℕ → Option Line
 sync_line None = None
 sync_line (Some file) = Some (Go (Sync file))
 
+abbrev pub tick_line : Option ℕ → Option Line
+tick_line None = None
+tick_line (Some milliseconds) = Some (Go (Tick milliseconds))
+
 abbrev pub hangup_line : LinesBefore → Option ℕ → Option Line
 hangup_line before None = None
 hangup_line before (Some conn) = if is_hung_up conn before then None else Some (Go (HangUp conn))
+
+-- a line that makes a file or hangs up, and the last one
+abbrev pub other_line : LinesBefore → List ℕ → Option Line
+other_line before text =
+    if starts_with nat_eq text (codes "file ") then file_line before (drop 5 text)
+    else if starts_with nat_eq text (codes "hangup ") then hangup_line before (number_of 32 (drop 7 text))
+    else if bytes_eq text (codes "end") then Some End
+    else None
 
 -- The same as a function: the line that a text is, if it is one, by the lines before it.
 unfoldable pub grammar_line : LinesBefore → List ℕ → Option Line
@@ -93,10 +106,8 @@ grammar_line before text =
     else if starts_with nat_eq text (codes "turn ") then turn_line (number_of 64 (drop 5 text))
     else if starts_with nat_eq text (codes "pump ") then pump_line (number_of 64 (drop 5 text))
     else if starts_with nat_eq text (codes "sync ") then sync_line (number_of 64 (drop 5 text))
-    else if starts_with nat_eq text (codes "file ") then file_line before (drop 5 text)
-    else if starts_with nat_eq text (codes "hangup ") then hangup_line before (number_of 32 (drop 7 text))
-    else if bytes_eq text (codes "end") then Some End
-    else None
+    else if starts_with nat_eq text (codes "tick ") then tick_line (number_of 32 (drop 5 text))
+    else other_line before text
 
 abbrev pub reading_of : LinesBefore → Option Line → LineReading LinesBefore Event
 reading_of before None = Refused

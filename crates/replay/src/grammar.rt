@@ -4,7 +4,7 @@ ghost use Rattle.std.specs.List.{list_all};
 ghost use Rattle.transcript.specs.Fields.{hex_bytes};
 ghost use Rattle.replay.specs.Grammar.{LinesBefore, IsLine, first_line, is_hung_up, in_name, lines_after};
 ghost use Rattle.replay.specs.Grammar.{is_name as is_name_text, file_line as file_line_of, bytes_line, piece_line as piece_line_of};
-ghost use Rattle.replay.specs.Grammar.{turn_line as turn_line_of, pump_line as pump_line_of, sync_line as sync_line_of, hangup_line as hangup_line_of, grammar_line as line_of_text};
+ghost use Rattle.replay.specs.Grammar.{turn_line as turn_line_of, pump_line as pump_line_of, sync_line as sync_line_of, tick_line as tick_line_of, hangup_line as hangup_line_of, other_line as other_line_of, grammar_line as line_of_text};
 ghost use Rattle.replay.specs.declared.grammar.Line.{Line as LineTerm};
 
 use gateway::{Event, Piece};
@@ -172,12 +172,36 @@ fn sync_line<'a>(file: Option<u64>) -> Option<Line<'a>>
     }
 }
 
+fn tick_line<'a>(milliseconds: Option<u32>) -> Option<Line<'a>>
+    ensures { result ≡ tick_line_of milliseconds }
+{
+    match milliseconds {
+        Some(milliseconds) => Some(Line::Go(Event::Tick(milliseconds))),
+        None => None,
+    }
+}
+
 fn hangup_line<'a>(before: &GrammarState, conn: Option<u32>) -> Option<Line<'a>>
     ensures { result ≡ hangup_line_of before.now conn }
 {
     match conn {
         Some(conn) if !before.hung_up(conn) => Some(Line::Go(Event::HangUp(conn))),
         _ => None,
+    }
+}
+
+// A line that makes a file or hangs up, or the last one.
+fn other_line<'a>(before: &GrammarState, text: &'a [u8]) -> Option<Line<'a>>
+    ensures { result ≡ other_line_of before.now text.now }
+{
+    if text.starts_with(b"file ") {
+        file_line(before, &text[5..])
+    } else if text.starts_with(b"hangup ") {
+        hangup_line(before, parse_u32(&text[7..]))
+    } else if text == b"end".as_slice() {
+        Some(Line::End)
+    } else {
+        None
     }
 }
 
@@ -199,14 +223,10 @@ pub fn line_of<'a>(
         Ok(pump_line(parse_u64(&text[5..])))
     } else if text.starts_with(b"sync ") {
         Ok(sync_line(parse_u64(&text[5..])))
-    } else if text.starts_with(b"file ") {
-        Ok(file_line(before, &text[5..]))
-    } else if text.starts_with(b"hangup ") {
-        Ok(hangup_line(before, parse_u32(&text[7..])))
-    } else if text == b"end".as_slice() {
-        Ok(Some(Line::End))
+    } else if text.starts_with(b"tick ") {
+        Ok(tick_line(parse_u32(&text[5..])))
     } else {
-        Ok(None)
+        Ok(other_line(before, text))
     }
 }
 
@@ -302,6 +322,12 @@ mod tests {
         );
         assert!(rt;
             matches!(
+                line_of(&before, b"tick 4294967295", &mut room)?,
+                Some(Line::Go(Event::Tick(4_294_967_295)))
+            )
+        );
+        assert!(rt;
+            matches!(
                 line_of(&before, b"hangup 4294967295", &mut room)?,
                 Some(Line::Go(Event::HangUp(4_294_967_295)))
             )
@@ -323,6 +349,7 @@ mod tests {
         assert!(rt; is_refused(alloc, b"pump 04")?);
         assert!(rt; is_refused(alloc, b"pump")?);
         assert!(rt; is_refused(alloc, b"sync 04")?);
+        assert!(rt; is_refused(alloc, b"tick 4294967296")?);
         assert!(rt; is_refused(alloc, b"hangup 4294967296")?);
         assert!(rt; is_refused(alloc, b"hangup")?);
         assert!(rt; is_refused(alloc, b"end ")?);

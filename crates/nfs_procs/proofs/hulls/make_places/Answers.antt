@@ -1,4 +1,4 @@
-use Rattle.std.proofs.Common.{◌≡◌, ◌<◌, ℕ, true, take, length, ◌∙◌, rules}
+use Rattle.std.proofs.Common.{◌≡◌, ◌<◌, true, take, length, ◌∙◌, rules}
 use Rattle.std.proofs.lemmas.List.Elements.{All-more, All-weaker}
 use Rattle.nfs_procs.specs.Contexts.{has_place}
 use Rattle.nfs_procs.proofs.hulls.make_places.Goals as goal

@@ -1,5 +1,5 @@
-use Rattle.nfs_procs.specs.Contexts.{store_state, world_scene}
-use Rattle.gateway.proofs.GatewayEvents.{made_stepped, received_stepped, turn_stepped, pump_stepped, sync_stepped, hung_up_stepped}
+use Rattle.nfs_procs.specs.Contexts.{store_state, world_scene, world_scene_of}
+use Rattle.gateway.proofs.GatewayEvents.{made_stepped, received_stepped, turn_stepped, pump_stepped, sync_stepped, tick_stepped, hung_up_stepped}
 use Rattle.nfs_procs.proofs.ContextBodies.{all_safe}
 use Rattle.gateway.proofs.gateway.Gateway.step.Goals as goal
 
@@ -60,3 +60,9 @@ returns-in-Sync-clause-safe g c =
     let at = g.C.Cluster.at c.args.cluster.now in
     let h = rw (← c.self-in-Sync.view_is) at c.requires.placed in
     all_safe g.C.File.AppendFile.tells _ at _ (c.sync.ensures.placed at h)
+
+pub returns-in-Tick-clause-step : goal.returns-in-Tick-clause-step
+returns-in-Tick-clause-step g c =
+    rw (c.in-Tick.is, ← c.self-in-Tick.view_is)
+    (tick_stepped g.C.File.AppendFile.tells c.tick.result c.step_result-in-Tick.result _ (world_scene_of g.C.Cluster c.self-in-Tick.inside.world c.args.cluster.now) (world_scene_of g.C.Cluster c.tick.new.self c.tick.new.cluster)
+    c.step_result-in-Tick.ensures.ok c.step_result-in-Tick.ensures.err c.in-Tick.milliseconds c.tick.ensures.ok c.tick.ensures.err)

@@ -1,6 +1,6 @@
-use Rattle.std.proofs.Common.{◌≡◌, Some, None, sym, ◌∙◌, ap}
+use Rattle.std.proofs.Common.{◌≡◌, None, sym, ◌∙◌, ap}
 use Rattle.nfs_procs.specs.World.{entry_at}
-use Rattle.nfs_procs.specs.Contexts.{AreCellsReady, other_cells}
+use Rattle.nfs_procs.specs.Contexts.{other_cells}
 use Rattle.nfs_procs.proofs.ContextCounts.{others_gone}
 use Rattle.nfs_procs.proofs.ContextMaps.{removed_is}
 use Rattle.nfs_procs.proofs.ContextReady.{ready_at, ready_removed}

@@ -1,7 +1,7 @@
 use Rattle.std.proofs.Common.{◌≡◌, refl, ◌∙◌, ap}
 use Rattle.file_calls.specs.Outside.{TrackerState}
 use Rattle.nfs_procs.specs.World.{TickBy}
-use Rattle.nfs_procs.specs.Contexts.{ProgramState, store_state, world_scene_of}
+use Rattle.nfs_procs.specs.Contexts.{ProgramState, store_state}
 use Rattle.nfs_procs.proofs.WorldTicks.{made_err, made_ok, tick_whole, ticked_tracker}
 use Rattle.nfs_procs.proofs.world.World.tick.Goals as goal
 

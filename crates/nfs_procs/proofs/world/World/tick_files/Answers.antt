@@ -1,26 +1,28 @@
-use Rattle.std.proofs.Common.{◌≡◌, ℕ, true, List, ◌∷◌, length, refl, ◌∙◌, ap, subst, arith}
+use Rattle.std.proofs.Common.{rules, ◌≡◌, ℕ, true, List, ◌∷◌, length, refl, ◌∙◌, ap, subst, arith}
 use Rattle.std.specs.List.{All}
 use Rattle.std.specs.Vec.Iter.{into_iter_items}
 use Rattle.std.proofs.lemmas.List.Elements.{All-head, All-rest, All-weaker}
-use Rattle.nfs_procs.specs.Contexts.{has_place, world_scene_of}
+use Rattle.nfs_procs.specs.Contexts.{has_place, store_state, world_scene_of}
 use Rattle.nfs_procs.specs.Ticks.{TicksFront}
 use Rattle.nfs_procs.proofs.ContextStores.{losses_trans, objects_trans, there_trans}
 use Rattle.nfs_procs.proofs.WorldTicks.{front_more, front_none}
 use Rattle.nfs_procs.proofs.world.World.tick_files.Goals as goal
 
 pub loop-file-init : goal.loop-file-init
-loop-file-init g c = rw c.into_iter-file-iterator.ensures.into_iter_gives (record {
-  front = front_none g.C.File.AppendFile.tells _ _ _ c.new.ensures.bytes;
-  placed = c.requires.placed;
-  places = c.requires.places;
-  noted = c.requires.noted;
-  names = refl;
-  others = λ told q apart. (refl, refl);
-  losses = λ told q. refl;
-  there = λ told q h. h;
-  event = refl;
-  settings = refl;
-})
+loop-file-init g c =
+    let is : into_iter_items c.into_iter-file-iterator.result ≡ c.args.files.items = search rules in
+    rw is (record {
+      front = front_none g.C.File.AppendFile.tells _ _ _ c.new.ensures.bytes;
+      placed = c.requires.placed;
+      places = c.requires.places;
+      noted = c.requires.noted;
+      names = refl;
+      others = λ told q apart. (refl, refl);
+      losses = λ told q. refl;
+      there = λ told q h. h;
+      event = refl;
+      settings = refl;
+    })
 
 pub tick_file-requires-clause-place : goal.tick_file-requires-clause-place
 tick_file-requires-clause-place g c =
@@ -37,6 +39,9 @@ loop-file-preserved g c =
     let noted = i.noted in
     let room = e.room in
     let mid = world_scene_of g.C.Cluster c.loop-file.self c.loop-file.cluster in
+    let a = store_state g.C.Cluster c.args.cluster.now in
+    let b = store_state g.C.Cluster c.loop-file.cluster in
+    let d = store_state g.C.Cluster c.tick_file.new.cluster in
     let front = subst (λ (xs : List ℕ). TicksFront g.C.File.AppendFile.tells c.args.files.items (world_scene_of g.C.Cluster c.args.self.now c.args.cluster.now) c.loop-file.text mid xs) steps i.front in
     record {
       front = front_more g.C.File.AppendFile.tells c.args.files.items _ mid _ c.loop-file.text c.tick_file.result c.joined-text.result c.in-Some.file rest front e.done c.joined-text.ensures.text c.joined-text.ensures.first c.joined-text.ensures.second;
@@ -45,9 +50,9 @@ loop-file-preserved g c =
           (All-rest (λ k. has_place k c.loop-file.self.hulls ≡ true) c.in-Some.file rest (into_iter_items c.loop-file.file-iterator) steps i.places);
       noted = omega (arith, many, noted, room);
       names = e.names ∙ i.names;
-      others = λ told. objects_trans _ _ _ (i.others told) (e.others told);
-      losses = λ told. losses_trans _ _ _ (i.losses told) (e.losses told);
-      there = λ told. there_trans _ _ _ (i.there told) (e.there told);
+      others = λ told. objects_trans a b d (i.others told) (e.others told);
+      losses = λ told. losses_trans a b d (i.losses told) (e.losses told);
+      there = λ told. there_trans a b d (i.there told) (e.there told);
       event = e.event ∙ i.event;
       settings = e.settings ∙ i.settings;
     }

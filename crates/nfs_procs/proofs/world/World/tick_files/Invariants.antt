@@ -1,4 +1,4 @@
-use Rattle.std.proofs.Common.{◌≡◌, ◌≤◌, [], length}
+use Rattle.std.proofs.Common.{◌≡◌, ◌≤◌, length}
 use Rattle.std.specs.Vec.Iter.{into_iter_items}
 use Rattle.nfs_procs.specs.Contexts.{AreBodiesPlaced, ObjectsStay, SameLosses, StaysThere, file_count, store_state, world_scene_of}
 use Rattle.nfs_procs.specs.Ticks.{HavePlaces, TicksFront}
