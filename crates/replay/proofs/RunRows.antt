@@ -9,9 +9,9 @@ use Rattle.xdr.specs.Items.{word, long, bool_text, opaque_text}
 use Rattle.xdr.specs.Reading.{u32_at, u64_at, opaque_at, finish_at}
 use Rattle.handles.specs.Handle.{handle_text, ids_text}
 use Rattle.gw_model.specs.Ahead.{Outcome, Done, Failed, NoMemory}
-use Rattle.gw_model.specs.Admission.{write_step, read_step, commit_step, with_accepted, write_judgement, commit_judgement, with_use, with_ready_sent, hearing_step, pump_step_with, pump_step}
+use Rattle.gw_model.specs.Admission.{write_step, read_step, commit_step, with_accepted, write_judgement, commit_judgement, with_use, with_ready_sent, hearing_step, pump_step_with, pump_step, stale_step}
 use Rattle.gw_model.specs.Writer.{turn_step, job_step, sync_step, writer_sync_step}
-use Rattle.gw_model.specs.Ending.{history_of}
+use Rattle.gw_model.specs.Ending.{closing_of, give_up_step, history_of, tick_judgement}
 use Rattle.file_cell.specs.History.{context_text, range_text, ended_line}
 use Rattle.transcript.specs.Fields.{number_of}
 use Rattle.transcript.specs.Script.{parts, script_of, AtEnd, AtBad, AtOpen}
@@ -39,7 +39,7 @@ no_bodies k = []
 -- a whole transcript under these settings over empty bodies, which is read to its end, uses these outcomes up, writes this and leaves
 -- the bodies so, from file 4 on
 abbrev pub Writes : Settings → List ℕ → List Outcome → List ℕ → List (List ℕ) → Type 0
-unfolding hex_on_literals md5 digest_bytes hash_after compress rounds block_words digits encode_with word long bool_text opaque_text u32_at u64_at opaque_at finish_at handle_text ids_text write_step read_step commit_step with_accepted write_judgement commit_judgement with_use with_ready_sent hearing_step pump_step_with pump_step turn_step job_step sync_step writer_sync_step history_of number_of parts script_of front_from front records_from records accepted_text rpc_mismatch_text denial_text sender_of call_word_at call_opaque_at call_body_at call_of args_of nfs_arms write_at read_at commit_at stable_at reply_bytes hex_line closed_line arrival context_text range_text ended_line is_name grammar_line next next_part
+unfolding hex_on_literals md5 digest_bytes hash_after compress rounds block_words digits encode_with word long bool_text opaque_text u32_at u64_at opaque_at finish_at handle_text ids_text write_step read_step commit_step with_accepted write_judgement commit_judgement with_use with_ready_sent hearing_step pump_step_with pump_step turn_step job_step sync_step writer_sync_step tick_judgement give_up_step closing_of stale_step history_of number_of parts script_of front_from front records_from records accepted_text rpc_mismatch_text denial_text sender_of call_word_at call_opaque_at call_body_at call_of args_of nfs_arms write_at read_at commit_at stable_at reply_bytes hex_line closed_line arrival context_text range_text ended_line is_name grammar_line next next_part
 Writes settings transcript outcomes text held =
     let traffic : Traffic = record { taken = transcript; written = text; outcomes = outcomes } in
     IsReadUpTo status.Done transcript traffic × (bodies : ℕ → List ℕ) × IsRun settings status.Done no_bodies transcript traffic bodies × HoldBodies 4 held bodies
@@ -254,6 +254,22 @@ commit_of_a_closed_file : Writes default_settings (codes "file data\nbytes 1 800
     (codes "" ∷ [])
 unfolding Writes
 commit_of_a_closed_file = (refl, _, record { text = refl; bodies = λ k. refl; stop = refl; used = record { left = refl; matched = refl } }, (refl, tt))
+
+-- ticks
+
+timeout_gives_up_and_hull : Writes default_settings (codes "file data\nbytes 1 80000068000000010000000000000002000186a3000000030000000700000000000000000000000000000000000000200000000000000004000000000000000121e0f2975a84e78cec58787af28bde1400000000000000000000000500000000000000056162636465000000\nturn 4\nbytes 1 80000068000000020000000000000002000186a3000000030000000700000000000000000000000000000000000000200000000000000004000000000000000121e0f2975a84e78cec58787af28bde14000000000000000a0000000500000000000000056b6c6d6e6f000000\nbytes 1 80000068000000030000000000000002000186a3000000030000000700000000000000000000000000000000000000200000000000000004000000000000000121e0f2975a84e78cec58787af28bde1400000000000000140000000500000002000000057576777879000000\nbytes 1 80000058000000040000000000000002000186a3000000030000001500000000000000000000000000000000000000200000000000000004000000000000000121e0f2975a84e78cec58787af28bde14000000000000000000000000\ntick 600000\nbytes 1 80000058000000050000000000000002000186a3000000030000001500000000000000000000000000000000000000200000000000000004000000000000000121e0f2975a84e78cec58787af28bde14000000000000000000000000\nbytes 1 80000058000000060000000000000002000186a3000000030000001500000000000000000000000000000000000000200000000000000004000000000000000121e0f2975a84e78cec58787af28bde14000000000000000000000005\nturn 4\nsync 4\nbytes 1 80000074000000070000000000000002000186a3000000030000000700000000000000000000000000000000000000200000000000000004000000000000000121e0f2975a84e78cec58787af28bde140000000000000005000000140000000000000014666768696a6b6c6d6e6f70717273747576777879\nturn 4\nbytes 1 80000058000000080000000000000002000186a3000000030000001500000000000000000000000000000000000000200000000000000004000000000000000121e0f2975a84e78cec58787af28bde14000000000000000000000000\nturn 4\nsync 4\nend\n")
+    (Done ∷ Done ∷ Done ∷ Done ∷ Done ∷ Done ∷ [])
+    (codes "reply 1 8000003400000001000000010000000000000000000000000000000000000000000000000000000000000005000000000000000000000001\nreply 1 8000003400000002000000010000000000000000000000000000000000000000000000000000000000000005000000000000000000000001\nreply 1 80000024000000030000000100000000000000000000000000000000000000050000000000000000\nreply 1 80000024000000040000000100000000000000000000000000000000000000050000000000000000\nreply 1 80000024000000050000000100000000000000000000000000000000000000050000000000000000\nreply 1 8000002c0000000600000001000000000000000000000000000000000000000000000000000000000000000000000001\nreply 1 8000003400000007000000010000000000000000000000000000000000000000000000000000000000000014000000000000000000000001\nreply 1 8000002c0000000800000001000000000000000000000000000000000000000000000000000000000000000000000001\ncontext 4 from 0\nwrite 1 0 5 put -\nwrite 2 10 5 lost -\nwrite 3 20 5 lost -\nwrite 4 5 20 put -\nended 4 end reach 25 stored 25 synced 25\n")
+    (codes "abcdefghijklmnopqrstuvwxy" ∷ [])
+unfolding Writes
+timeout_gives_up_and_hull = (refl, _, record { text = refl; bodies = λ k. refl; stop = refl; used = record { left = refl; matched = refl } }, (refl, tt))
+
+failed_append_turns_stale : Writes default_settings (codes "file data\nbytes 1 80000068000000010000000000000002000186a3000000030000000700000000000000000000000000000000000000200000000000000004000000000000000121e0f2975a84e78cec58787af28bde1400000000000000000000000500000000000000056162636465000000\nturn 4\npump 4\nbytes 1 80000058000000020000000000000002000186a3000000030000001500000000000000000000000000000000000000200000000000000004000000000000000121e0f2975a84e78cec58787af28bde14000000000000000000000000\nbytes 1 80000064000000030000000000000002000186a3000000030000000700000000000000000000000000000000000000200000000000000004000000000000000121e0f2975a84e78cec58787af28bde14000000000000000500000001000000000000000178000000\ntick 1\nbytes 1 80000058000000040000000000000002000186a3000000030000001500000000000000000000000000000000000000200000000000000004000000000000000121e0f2975a84e78cec58787af28bde14000000000000000000000000\nbytes 1 80000064000000050000000000000002000186a3000000030000000700000000000000000000000000000000000000200000000000000004000000000000000121e0f2975a84e78cec58787af28bde14000000000000000300000002000000000000000264650000\nturn 4\nbytes 1 80000058000000060000000000000002000186a3000000030000001500000000000000000000000000000000000000200000000000000004000000000000000121e0f2975a84e78cec58787af28bde14000000000000000000000000\nturn 4\nsync 4\nend\n")
+    (Done ∷ Done ∷ Failed 3 ∷ Done ∷ Done ∷ Done ∷ Done ∷ [])
+    (codes "reply 1 80000024000000010000000100000000000000000000000000000000000000050000000000000000\nreply 1 80000024000000020000000100000000000000000000000000000000000000050000000000000000\nreply 1 80000024000000030000000100000000000000000000000000000000000000050000000000000000\ncontext 4 from 0\nwrite 1 0 5 lost -\nended 4 closed reach 5 stored 3 synced 3\nreply 1 80000024000000040000000100000000000000000000000000000000000000050000000000000000\nreply 1 8000003400000005000000010000000000000000000000000000000000000000000000000000000000000002000000000000000000000001\nreply 1 8000002c0000000600000001000000000000000000000000000000000000000000000000000000000000000000000001\ncontext 4 from 3\nwrite 1 3 2 put -\nended 4 end reach 5 stored 5 synced 5\n")
+    (codes "abcde" ∷ [])
+unfolding Writes
+failed_append_turns_stale = (refl, _, record { text = refl; bodies = λ k. refl; stop = refl; used = record { left = refl; matched = refl } }, (refl, tt))
 
 -- settings
 
