@@ -4,6 +4,7 @@
 
 mod call;
 mod front;
+mod mounts;
 mod told;
 
 pub use call::answer;

@@ -1,4 +1,4 @@
-// The replies of the procedures that change nothing.
+// The replies of the procedures that change no names.
 ghost use Rattle.std.specs.Prelude.{◌≡◌, ◌≤◌, ◌++◌, Some, IfOk};
 ghost use Rattle.std.specs.Option.{option_map};
 ghost use Rattle.xdr.specs.Rows.{text};
@@ -26,7 +26,7 @@ fn some_text(alloc: Global, results: &Res<'_>) -> Result<Option<Vec<u8>>, NoMemo
     }
 }
 
-/// The results of a procedure that changes nothing; `None` for another. Takes memory.
+/// The results of a procedure that changes no names; `None` for another. Takes memory.
 #[tactic(auto, unfolding(crate::specs::FrontAnswers::front_results))]
 pub fn told_text(
     alloc: Global,
@@ -44,6 +44,8 @@ pub fn told_text(
             Ok(text) => Ok(Some(text)),
             Err(_) => Err(NoMemory),
         },
+        Args::Umnt { .. } => some_text(alloc, &Res::Umnt),
+        Args::Umntall => some_text(alloc, &Res::Umntall),
         Args::Export => match export_text(alloc, &front.export) {
             Ok(text) => Ok(Some(text)),
             Err(_) => Err(NoMemory),
