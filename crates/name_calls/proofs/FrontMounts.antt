@@ -9,6 +9,7 @@ use Rattle.name_calls.specs.FrontAnswers.{front_results, mounts_after}
 
 untold_stay : (f : Front) (q : Call) (a : Args) → None ≡ results_text (front_results f q a) → f.mounts ≡ mounts_after f q a
 unfolding front_results
+untold_stay f q (args.Mnt path) untold = absurd (cc)
 untold_stay f q (args.Umnt path) untold = absurd (cc)
 untold_stay f q args.Umntall untold = absurd (cc)
 untold_stay f q _ untold = refl

@@ -6,7 +6,7 @@ ghost use Rattle.name_changes.specs.Stores.{IsStored, log_seen, store_seen};
 ghost use Rattle.name_calls.specs.FrontAnswers.{front_asked, mounts_after};
 
 use crate::Front;
-use crate::mounts::unmount;
+use crate::mounts::change_mounts;
 use crate::told::{told_text, with_head};
 use append_store::Cluster;
 use edit_log::Log;
@@ -16,12 +16,13 @@ use nfs_wire::Args;
 use rpc_msg::Call;
 use std::alloc::Global;
 
-/// Answers a call at a moment in milliseconds: NULL and each other procedure of NFS version 3 but READ, WRITE and COMMIT, and each
-/// of MOUNT version 3 but MNT (RFC 1813 sections 3.3 and 5.2). `None` for the arguments of another procedure.
+/// Answers a call at a moment in milliseconds: NULL and each other procedure of NFS version 3 but READ, WRITE and COMMIT, and all
+/// of MOUNT version 3 (RFC 1813 sections 3.3 and 5.2). `None` for the arguments of READ, WRITE and COMMIT.
 ///
 /// A procedure that changes names or attributes is answered as `name_changes::answer` has it: its reply is kept, a call that comes
-/// again has that reply, and NFS3ERR_IO comes where the log or the store failed. The replies of the others aren't kept, and they
-/// change nothing but that UMNT and UMNTALL take out of the mount list. The calls on the store are noted.
+/// again has that reply, and NFS3ERR_IO comes where the log or the store failed. The replies of the others aren't kept. They
+/// change nothing but the mount list: a MNT that isn't refused lists the caller's machine with the path, and UMNT and UMNTALL
+/// take out. The calls on the store are noted.
 ///
 /// `Err` is want of memory. It changes nothing, but that the call may have become the last used, and that the body of a new file
 /// may be there, empty.
@@ -52,14 +53,20 @@ pub fn answer<C: Cluster>(
 {
     match told_text(alloc, front, call, args) {
         Ok(Some(results)) => match with_head(alloc, call.xid, &results) {
-            Ok(text) => {
-                unmount(&mut front.mounts, &call.host, args);
-                Ok(Some(NameDone {
+            Ok(text) => match change_mounts(
+                &mut front.mounts,
+                &front.names.tree,
+                &front.export,
+                &call.host,
+                args,
+            ) {
+                Ok(()) => Ok(Some(NameDone {
                     text,
                     removed: None,
                     ending: None,
-                }))
-            }
+                })),
+                Err(_) => Err(NoMemory),
+            },
             Err(_) => Err(NoMemory),
         },
         Ok(None) => name_changes::answer(

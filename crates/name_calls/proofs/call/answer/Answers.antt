@@ -16,3 +16,6 @@ returns-clause-store g c = untouched _ _ _ _ c.args.trace.now c.args.trace.now r
 pub returns-in-Ok-None-clause-mounts : goal.returns-in-Ok-None-clause-mounts
 returns-in-Ok-None-clause-mounts g c =
     stay_where_untold _ _ c.args.args.now _ c.answer.result c.in-Ok-None.ensures (ap (option_map (λ v. v.items)) c.in-Ok-None.field-0-is)
+
+pub returns-in-Ok-change_mounts-clause-store : goal.returns-in-Ok-change_mounts-clause-store
+returns-in-Ok-change_mounts-clause-store g c = untouched _ _ _ _ c.args.trace.now c.args.trace.now refl
