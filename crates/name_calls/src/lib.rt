@@ -9,3 +9,6 @@ mod told;
 
 pub use call::answer;
 pub use front::Front;
+
+#[cfg(test)]
+mod tests;
