@@ -21,6 +21,10 @@ in_body p = record p { lacks = fragment_len p.header; total = p.total + fragment
 abbrev pub HasRoom : Place → Type 0
 HasRoom p = (p.done < fragments_max) × (p.total + fragment_len p.header ≤ record_max)
 
+-- from a header that is whole to its fragment's bytes
+abbrev pub IsJudged : Place → Place → Type 0
+IsJudged p new = HasRoom p × (new ≡ in_body p)
+
 -- what is at fault with a header that is whole
 abbrev pub IsFaultAt : Place → FrameFault → Type 0
 IsFaultAt p TooMany = fragments_max ≤ p.done

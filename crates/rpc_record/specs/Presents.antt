@@ -35,7 +35,8 @@ pub record IsPlace (p : Place) (have body : List ℕ) : Type 0 where
   pub few : p.total ≤ record_max
   pub filled : p.filled ≤ 4
   pub in_header : p.filled < 4 → (body ≡ []) × (length have ≡ p.total)
-  pub in_body : p.filled ≡ 4 → (p.done < fragments_max) × (length body + p.lacks ≡ fragment_len p.header) × (length have + fragment_len p.header ≡ p.total)
+  pub in_body : p.filled ≡ 4
+      → (p.done < fragments_max) × (length body + p.lacks ≡ fragment_len p.header) × (length have + fragment_len p.header ≡ p.total)
 
 -- The stream `all` was looked at up to `rest`. Unless memory was refused, the bytes before that are kept.
 pub record IsWalk (words : List (List ℕ)) (p : Place) (joined : List ℕ) (refused : Bool) (rest all : List ℕ) : Type 0 where
@@ -43,10 +44,18 @@ pub record IsWalk (words : List (List ℕ)) (p : Place) (joined : List ℕ) (ref
   pub body : List ℕ
   pub place : IsPlace p have body
   pub so_far : (more : List ℕ) → front (all ++ more) ≡ front_from (fragments_max - p.done) have (header_part p ++ body ++ rest ++ more)
-  pub kept : refused ≡ false → (joined ≡ have ++ body) × (bytes_under words ≡ length have) × (received words (header_part p) joined ++ rest ≡ all)
+  pub kept : refused ≡ false
+      → (joined ≡ have ++ body) × (bytes_under words ≡ length have) × (received words (header_part p) joined ++ rest ≡ all)
 
 abbrev pub Stands : Present → Bool → List ℕ → List ℕ → Type 0
 Stands s refused rest all = IsWalk (whole_headers s) s.place s.joined.items refused rest all
+
+-- what a stage of a walk leaves
+abbrev pub GoesOn : Present → Bool → List ℕ → Present → Bool → List ℕ → Type 0
+GoesOn old was rest new refused behind = (all : List ℕ) → Stands old was rest all → Stands new refused behind all
+
+abbrev pub IsFaultIn : Present → Bool → List ℕ → FrameFault → Type 0
+IsFaultIn s refused rest fault = (all : List ℕ) → Stands s refused rest all → (front all ≡ Fault fault) × (fault ≢ Memory)
 
 -- the present fragment lacks a byte, if its header is whole
 abbrev pub IsShort : Place → Type 0
@@ -77,7 +86,8 @@ IsWalked walked.Refused held piece new = (fault : FrameFault) → front (held ++
 -- what a piece came to, where it may be undone
 abbrev pub IsTaken : Taken → List ℕ → List ℕ → Present → Type 0
 IsTaken taken.All held piece new = (front (held ++ piece) ≡ Open) × (held_of new ≡ held ++ piece)
-IsTaken (taken.Record count message) held piece new = (front (held ++ piece) ≡ Whole message (drop count piece)) × (count ≤ length piece) × (held_of new ≡ [])
+IsTaken (taken.Record count message) held piece new =
+    (front (held ++ piece) ≡ Whole message (drop count piece)) × (count ≤ length piece) × (held_of new ≡ [])
 
 -- why a piece of this stream isn't taken
 abbrev pub IsRefusal : FrameFault → List ℕ → Type 0

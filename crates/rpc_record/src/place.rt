@@ -1,7 +1,7 @@
 // Where a stream stands in a record that isn't whole yet.
 ghost use Rattle.std.specs.Prelude.{◌≡◌, ◌+◌, ◌<◌, ◌≤◌, length, IfNone, IfSome};
 ghost use Rattle.rpc_record.specs.Records.{record_max, header, is_last};
-ghost use Rattle.rpc_record.specs.Places.{with_byte, in_body, HasRoom, IsFaultAt};
+ghost use Rattle.rpc_record.specs.Places.{with_byte, IsJudged, IsFaultAt};
 
 use crate::FrameFault;
 
@@ -56,7 +56,7 @@ impl Place {
     fn judge(&mut self) -> Option<FrameFault>
         requires few { self.old.total ≤ record_max }
         ensures done { self.new.done ≡ self.old.done }
-        ensures good { IfNone result (HasRoom self.old × (self.new ≡ in_body self.old)) }
+        ensures good { IfNone result (IsJudged self.old self.new) }
         ensures fault { IfSome result (λ fault. IsFaultAt self.old fault) }
     {
         if self.done >= MOST_FRAGMENTS {
@@ -78,7 +78,7 @@ impl Place {
         requires few { self.old.total ≤ record_max }
         ensures done { self.new.done ≡ self.old.done }
         ensures part { IfNone result (self.old.filled + 1 < 4 → self.new ≡ with_byte self.old byte) }
-        ensures good { IfNone result (self.old.filled ≡ 3 → HasRoom (with_byte self.old byte) × (self.new ≡ in_body (with_byte self.old byte))) }
+        ensures good { IfNone result (self.old.filled ≡ 3 → IsJudged (with_byte self.old byte) self.new) }
         ensures fault { IfSome result (λ fault. (self.old.filled ≡ 3) × IsFaultAt (with_byte self.old byte) fault) }
     {
         self.header[self.filled] = byte;

@@ -1,9 +1,10 @@
 // The record of a stream that isn't whole yet.
-ghost use Rattle.std.specs.Prelude.{Bool, ◌≡◌, ◌≢◌, ℕ, ◌+◌, ◌<◌, ◌≤◌, ◌-◌, ◌∷◌, ◌++◌, [], List, length, take, drop, false, OnOk, OnErr, IfOk, IfErr};
+ghost use Rattle.std.specs.Prelude.{Bool, ◌≡◌, ℕ, ◌+◌, ◌<◌, ◌≤◌, ◌-◌, ◌∷◌, ◌++◌, [], List, length, take, drop, false, OnOk, OnErr, IfOk, IfErr};
 ghost use Rattle.std.specs.Bool.{OnTrue, OnFalse};
 ghost use Rattle.rpc_record.specs.declared.fault.FrameFault.{FrameFault};
-ghost use Rattle.rpc_record.specs.Records.{record_max, Fault, front};
-ghost use Rattle.rpc_record.specs.Presents.{whole_headers, held_of, Stands, IsShort, IsPresent, IsEnd, Extends, IsWalked, IsTaken, IsRefusal};
+ghost use Rattle.rpc_record.specs.Records.{record_max};
+ghost use Rattle.rpc_record.specs.Presents.{whole_headers, held_of, GoesOn, IsFaultIn, IsShort, IsPresent, IsEnd};
+ghost use Rattle.rpc_record.specs.Presents.{Extends, IsWalked, IsTaken, IsRefusal};
 
 use crate::FrameFault;
 use crate::place::Place;
@@ -84,9 +85,9 @@ impl Present {
         requires few { self.old.place.total ≤ record_max }
         requires header { self.old.place.filled ≤ 4 }
         requires short { IsShort self.old.place }
-        ensures stands { IfOk result (λ count. (all : List ℕ) → Stands self.old refused.old rest.now all → Stands self.new refused.new (drop count rest.now) all) }
+        ensures stands { IfOk result (λ count. GoesOn self.old refused.old rest.now self.new refused.new (drop count rest.now)) }
         ensures count { IfOk result (λ count. (0 < count) × (count ≤ length rest.now)) }
-        ensures fault { IfErr result (λ fault. (all : List ℕ) → Stands self.old refused.old rest.now all → (front all ≡ Fault fault) × (fault ≢ FrameFault.Memory)) }
+        ensures fault { IfErr result (λ fault. IsFaultIn self.old refused.old rest.now fault) }
         ensures kept { Extends self.old self.new }
     {
         if self.place.filled < 4 {
@@ -106,7 +107,7 @@ impl Present {
         requires header { self.old.place.filled ≤ 4 }
         requires some { self.old.place.filled ≡ 4 → self.old.place.done < 64 }
         ensures last { OnTrue result (IsEnd self.old) }
-        ensures more { OnFalse result ((refused : Bool) (rest all : List ℕ) → Stands self.old refused rest all → Stands self.new refused rest all) }
+        ensures more { OnFalse result ((refused : Bool) (rest : List ℕ) → GoesOn self.old refused rest self.new refused rest) }
         ensures short { OnFalse result (IsShort self.new.place) }
         ensures joined { self.new.joined ≡ self.old.joined }
         ensures kept { Extends self.old self.new }
