@@ -1,3 +1,4 @@
 pub mod Extents
 pub mod Writes
+pub mod Taken
 pub mod Moves

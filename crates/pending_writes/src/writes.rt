@@ -1,13 +1,17 @@
 // Pending writes with the spill file of their bytes.
-ghost use Rattle.std.specs.Prelude.{◌≡◌, true, length, slice_get, IfErr, OnErr, OnOk, IsTrue, []};
+ghost use Rattle.std.specs.Prelude.{◌≡◌, true, length, slice_get, IfErr, IfSome, OnErr, OnOk, IsTrue, []};
 ghost use Rattle.std.specs.Option.{option_copied};
 ghost use Rattle.range_map.specs.Entries.{commit_goal, is_in_memory, is_new, with_entry};
+ghost use Rattle.spill.specs.Kept.{extents_of};
+ghost use Rattle.pending_writes.specs.Extents.{are_all_held, held_extents, live_without, place_extents};
 ghost use Rattle.pending_writes.specs.Moves.{MovesLast};
+ghost use Rattle.pending_writes.specs.Taken.{are_taken, freed_all};
 ghost use Rattle.pending_writes.specs.Writes.{beyond_first, first_reached, is_sound_entry};
 
 use crate::SpillMove;
+use crate::freeing::{free_all, free_place};
 use crate::steps::move_last;
-use range_map::{Entry, PendingMap};
+use range_map::{Entry, PendingMap, Place};
 use spill::{SpillDevice, SpillFile};
 use std::alloc::Global;
 use std::marker::Model;
@@ -57,11 +61,32 @@ impl<M: PendingMap, D: SpillDevice> PendingWrites<M, D> {
     pub fn take_first(&mut self, reach: u64) -> Option<Entry>
         ensures first { result ≡ first_reached reach self.old.entries }
         ensures rest { self.new ≡ record self.old { entries = beyond_first reach self.old.entries } }
+        ensures taken { IfSome result (λ e. are_taken (place_extents e.place) self.new ≡ true) }
+        ensures sound { IfSome result (λ e. is_sound_entry e ≡ true) }
     {
         match self.map.first() {
             Some(entry) if entry.offset <= reach => self.map.pop_first(),
             _ => None,
         }
+    }
+
+    /// Lets the bytes of an entry go that was taken off: their extent is freed, if they are on the device.
+    pub fn let_go(&mut self, place: Place)
+        requires taken { are_taken (place_extents place) self.old ≡ true }
+        ensures freed { self.new ≡ record self.old { spill = freed_all (place_extents place) self.old.spill } }
+        ensures live { extents_of self.new.spill.kept ≡ live_without (place_extents place) (extents_of self.old.spill.kept) }
+    {
+        free_place(&mut self.spill, place);
+    }
+
+    /// Drops all entries, and frees their extents. Takes no memory. Whoever owes replies takes the entries off one by
+    /// one and lets go of their places.
+    pub fn give_up(&mut self)
+        ensures freed { self.new ≡ record { entries = []; spill = freed_all (held_extents self.old.entries) self.old.spill } }
+        ensures live { extents_of self.new.spill.kept ≡ live_without (held_extents self.old.entries) (extents_of self.old.spill.kept) }
+        ensures none { IsTrue (are_all_held (held_extents self.old.entries) (extents_of self.old.spill.kept)) → self.new.spill.kept ≡ [] }
+    {
+        free_all(&mut self.map, &mut self.spill);
     }
 
     /// The bytes of the last entry in memory go to the device. Takes memory.
