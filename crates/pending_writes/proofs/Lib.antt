@@ -3,3 +3,4 @@ pub mod LastEntries
 pub mod LiveExtents
 pub mod SoundEntries
 pub mod SpillMoves
+pub mod Reading

@@ -1,4 +1,5 @@
 pub mod Extents
 pub mod Writes
 pub mod Taken
+pub mod Reads
 pub mod Moves

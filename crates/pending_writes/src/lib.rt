@@ -2,9 +2,10 @@
 #![tactic(auto)]
 
 mod freeing;
+mod loading;
 mod reports;
 mod steps;
 mod writes;
 
-pub use reports::SpillMove;
+pub use reports::{Load, SpillMove};
 pub use writes::PendingWrites;

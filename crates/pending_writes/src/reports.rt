@@ -1,4 +1,6 @@
 // What the calls answer.
+use bytes::Bytes;
+use spill_region::Extent;
 
 /// What a spill step came to.
 #[derive(Clone, Copy, Debug, PartialEq, Eq)]
@@ -13,4 +15,17 @@ pub enum SpillMove {
     Fault,
     /// Memory was refused.
     Memory,
+}
+
+/// What a load came to.
+#[derive(Debug, Drop)]
+pub enum Load {
+    /// The bytes are in memory, and their extent is freed.
+    Loaded(Bytes),
+    /// The device failed: the bytes are lost, and their extent is freed.
+    Fault,
+    /// Memory was refused before the device was called.
+    Memory(Extent),
+    /// The device was called, and then memory was refused.
+    MemoryAfterRead(Extent),
 }

@@ -1,18 +1,21 @@
 // Pending writes with the spill file of their bytes.
-ghost use Rattle.std.specs.Prelude.{◌≡◌, true, length, slice_get, IfErr, IfSome, OnErr, OnOk, IsTrue, []};
+ghost use Rattle.std.specs.Prelude.{◌≡◌, true, length, slice_get, IfErr, IfSome, OnErr, OnOk, IsTrue, [], ◌∷◌};
 ghost use Rattle.std.specs.Option.{option_copied};
 ghost use Rattle.range_map.specs.Entries.{commit_goal, is_in_memory, is_new, with_entry};
 ghost use Rattle.spill.specs.Kept.{extents_of};
 ghost use Rattle.pending_writes.specs.Extents.{are_all_held, held_extents, live_without, place_extents};
 ghost use Rattle.pending_writes.specs.Moves.{MovesLast};
+ghost use Rattle.pending_writes.specs.Reads.{Loads};
 ghost use Rattle.pending_writes.specs.Taken.{are_taken, freed_all};
 ghost use Rattle.pending_writes.specs.Writes.{beyond_first, first_reached, is_sound_entry};
 
-use crate::SpillMove;
 use crate::freeing::{free_all, free_place};
+use crate::loading::load_extent;
 use crate::steps::move_last;
+use crate::{Load, SpillMove};
 use range_map::{Entry, PendingMap, Place};
 use spill::{SpillDevice, SpillFile};
+use spill_region::Extent;
 use std::alloc::Global;
 use std::marker::Model;
 
@@ -68,6 +71,16 @@ impl<M: PendingMap, D: SpillDevice> PendingWrites<M, D> {
             Some(entry) if entry.offset <= reach => self.map.pop_first(),
             _ => None,
         }
+    }
+
+    /// The bytes of an entry that was taken off and is on the device come back into memory. Its extent is freed; also
+    /// after a fault, since the bytes are lost then. Takes memory: where that is refused, the extent stays.
+    pub fn load(&mut self, extent: Extent) -> Load
+        requires taken { are_taken (extent ∷ []) self.old ≡ true }
+        ensures load { Loads D.tells extent result self.old.spill self.new.spill }
+        ensures entries { self.new.entries ≡ self.old.entries }
+    {
+        load_extent(&mut self.spill, extent)
     }
 
     /// Lets the bytes of an entry go that was taken off: their extent is freed, if they are on the device.
