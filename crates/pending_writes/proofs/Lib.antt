@@ -1,3 +1,4 @@
+pub mod SameBytes
 pub mod Freed
 pub mod LastEntries
 pub mod LiveExtents

@@ -1,7 +1,6 @@
 -- What a get of a spill file tells, and frees behind it.
-use Rattle.std.proofs.Common.{◌≡◌, ◌≤◌, ℕ, zero, suc, Bool, true, false, Result, Ok, Err, List, [], ◌∷◌, ◌++◌, length, refl, sym, ◌∙◌, ap, subst}
+use Rattle.std.proofs.Common.{◌≡◌, ℕ, Bool, true, false, List, [], ◌∷◌, length, refl, sym, ◌∙◌, ap, subst}
 use Rattle.std.specs.List.{Contains}
-use Rattle.gw_outside.specs.Causes.{Rose}
 use Rattle.gw_outside.specs.Tally.{one_call}
 use Rattle.spill_region.specs.Extents.{RegionState, Span, with_freed}
 use Rattle.spill.specs.Kept.{KeptExtent, SpillState, bytes_at, extents_of, kept_without, region_of}
@@ -66,3 +65,8 @@ live_one e s live = live_contains e (extents_of s.kept) (and_true (is_live e (ex
 
 pub live_after : (e : Span) (old new : SpillState) → are_live (e ∷ []) (extents_of old.kept) ≡ true → region_of new ≡ region_of old → Contains (extents_of new.kept) e
 live_after e old new live is = live_one e new (subst (λ (xs : List Span). are_live (e ∷ []) xs ≡ true) (sym (live_same new old is)) live)
+
+-- a read that frees nothing
+pub read_alone : (tells : Type 0) (failed : Bool) (old new : SpillState) → region_of new ≡ region_of old → (tells → new.kept ≡ old.kept)
+    → RoseIf failed old.faults new.faults → new.tally ≡ one_call failed old.tally → IsRead tells failed [] old new
+read_alone tells failed old new region kept faults tally = record { region = region; kept = kept; faults = faults; tally = tally }

@@ -2,4 +2,5 @@ pub mod Extents
 pub mod Writes
 pub mod Taken
 pub mod Reads
+pub mod Comparisons
 pub mod Moves

@@ -1,11 +1,12 @@
 //! The pending writes of one open file, in memory or on its spill device.
 #![tactic(auto)]
 
+mod comparing;
 mod freeing;
 mod loading;
 mod reports;
 mod steps;
 mod writes;
 
-pub use reports::{Load, SpillMove};
+pub use reports::{Comparison, Load, SpillMove};
 pub use writes::PendingWrites;

@@ -29,3 +29,18 @@ pub enum Load {
     /// The device was called, and then memory was refused.
     MemoryAfterRead(Extent),
 }
+
+/// How a write compares with a pending one of its range.
+#[derive(Clone, Copy, Debug, PartialEq, Eq)]
+pub enum Comparison {
+    /// The pending one has the same bytes.
+    Same,
+    /// It has other bytes.
+    Differs,
+    /// Its bytes are on the device, which failed.
+    Fault,
+    /// Memory for them was refused.
+    Memory,
+    /// No pending write has this range.
+    NotThere,
+}

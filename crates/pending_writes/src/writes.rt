@@ -1,18 +1,20 @@
 // Pending writes with the spill file of their bytes.
-ghost use Rattle.std.specs.Prelude.{◌≡◌, true, length, slice_get, IfErr, IfSome, OnErr, OnOk, IsTrue, [], ◌∷◌};
+ghost use Rattle.std.specs.Prelude.{◌≡◌, ◌≤◌, true, find, length, slice_get, IfErr, IfSome, OnErr, OnOk, IsTrue, [], ◌∷◌};
 ghost use Rattle.std.specs.Option.{option_copied};
-ghost use Rattle.range_map.specs.Entries.{commit_goal, is_in_memory, is_new, with_entry};
+ghost use Rattle.range_map.specs.Entries.{commit_goal, has_range, is_in_memory, is_new, with_entry};
 ghost use Rattle.spill.specs.Kept.{extents_of};
+ghost use Rattle.pending_writes.specs.Comparisons.{Compares};
 ghost use Rattle.pending_writes.specs.Extents.{are_all_held, held_extents, live_without, place_extents};
 ghost use Rattle.pending_writes.specs.Moves.{MovesLast};
 ghost use Rattle.pending_writes.specs.Reads.{Loads};
 ghost use Rattle.pending_writes.specs.Taken.{are_taken, freed_all};
 ghost use Rattle.pending_writes.specs.Writes.{beyond_first, first_reached, is_sound_entry};
 
+use crate::comparing::compare_range;
 use crate::freeing::{free_all, free_place};
 use crate::loading::load_extent;
 use crate::steps::move_last;
-use crate::{Load, SpillMove};
+use crate::{Comparison, Load, SpillMove};
 use range_map::{Entry, PendingMap, Place};
 use spill::{SpillDevice, SpillFile};
 use spill_region::Extent;
@@ -71,6 +73,16 @@ impl<M: PendingMap, D: SpillDevice> PendingWrites<M, D> {
             Some(entry) if entry.offset <= reach => self.map.pop_first(),
             _ => None,
         }
+    }
+
+    /// Compares a write with the first pending one of its offset and count. Nothing changes but what the device counts,
+    /// which is read where the pending bytes are there. Takes memory.
+    pub fn compare(&mut self, offset: u64, bytes: &[u8]) -> Comparison
+        requires few { length bytes.now ≤ 1048576 }
+        ensures comparison { Compares D.tells (find (has_range offset (length bytes.now)) self.old.entries) bytes.now result self.old.spill self.new.spill }
+        ensures entries { self.new.entries ≡ self.old.entries }
+    {
+        compare_range(&self.map, &mut self.spill, offset, bytes)
     }
 
     /// The bytes of an entry that was taken off and is on the device come back into memory. Its extent is freed; also
