@@ -1,5 +1,7 @@
+pub mod BytesStay
 pub mod SameBytes
 pub mod Freed
+pub mod KeptBytes
 pub mod LastEntries
 pub mod LiveExtents
 pub mod SoundEntries

@@ -28,7 +28,7 @@ use Rattle.pending_writes.proofs.SoundEntries.{memory_holds_none}
 
 -- the last entry in memory
 
-on_device : (p : Place) (x : Span) → p ≡ Spilled x → lies_in_memory p ≡ true → ⊥
+pub on_device : (p : Place) (x : Span) → p ≡ Spilled x → lies_in_memory p ≡ true → ⊥
 on_device p x is here = let no : false ≡ true = sym (ap lies_in_memory is) ∙ here in absurd (cc)
 
 pub last_is_here : (es : List Entry) (e : Entry) → last_of_memory es ≡ Some e → is_in_memory e ≡ true
@@ -129,7 +129,7 @@ put_done tells e es es' number start n x bytes old new found size place is_numbe
 
 -- The entries stay sound.
 
-held-append : (xs ys : List Entry) → held_extents (xs ++ ys) ≡ held_extents xs ++ held_extents ys
+pub held-append : (xs ys : List Entry) → held_extents (xs ++ ys) ≡ held_extents xs ++ held_extents ys
 held-append [] ys = refl
 held-append (x ∷ xs) ys = ap (λ (zs : List Span). place_extents x.place ++ zs) (held-append xs ys) ∙ sym (append_assoc (place_extents x.place) (held_extents xs) (held_extents ys))
 

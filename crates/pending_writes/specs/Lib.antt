@@ -4,3 +4,4 @@ pub mod Taken
 pub mod Reads
 pub mod Comparisons
 pub mod Moves
+pub mod Bytes

@@ -3,6 +3,7 @@ ghost use Rattle.std.specs.Prelude.{◌≡◌, ◌≤◌, true, find, length, sl
 ghost use Rattle.std.specs.Option.{option_copied};
 ghost use Rattle.range_map.specs.Entries.{commit_goal, has_range, is_in_memory, is_new, with_entry};
 ghost use Rattle.spill.specs.Kept.{extents_of};
+ghost use Rattle.pending_writes.specs.Bytes.{pending_bytes};
 ghost use Rattle.pending_writes.specs.Comparisons.{Compares};
 ghost use Rattle.pending_writes.specs.Extents.{are_all_held, held_extents, live_without, place_extents};
 ghost use Rattle.pending_writes.specs.Moves.{MovesLast};
@@ -79,6 +80,7 @@ impl<M: PendingMap, D: SpillDevice> PendingWrites<M, D> {
     /// which is read where the pending bytes are there. Takes memory.
     pub fn compare(&mut self, offset: u64, bytes: &[u8]) -> Comparison
         requires few { length bytes.now ≤ 1048576 }
+        ensures bytes { D.tells → pending_bytes self.new ≡ pending_bytes self.old }
         ensures comparison { Compares D.tells (find (has_range offset (length bytes.now)) self.old.entries) bytes.now result self.old.spill self.new.spill }
         ensures entries { self.new.entries ≡ self.old.entries }
     {
@@ -89,6 +91,7 @@ impl<M: PendingMap, D: SpillDevice> PendingWrites<M, D> {
     /// after a fault, since the bytes are lost then. Takes memory: where that is refused, the extent stays.
     pub fn load(&mut self, extent: Extent) -> Load
         requires taken { are_taken (extent ∷ []) self.old ≡ true }
+        ensures bytes { D.tells → pending_bytes self.new ≡ pending_bytes self.old }
         ensures load { Loads D.tells extent result self.old.spill self.new.spill }
         ensures entries { self.new.entries ≡ self.old.entries }
     {
@@ -99,6 +102,7 @@ impl<M: PendingMap, D: SpillDevice> PendingWrites<M, D> {
     pub fn let_go(&mut self, place: Place)
         requires taken { are_taken (place_extents place) self.old ≡ true }
         ensures freed { self.new ≡ record self.old { spill = freed_all (place_extents place) self.old.spill } }
+        ensures bytes { pending_bytes self.new ≡ pending_bytes self.old }
         ensures live { extents_of self.new.spill.kept ≡ live_without (place_extents place) (extents_of self.old.spill.kept) }
     {
         free_place(&mut self.spill, place);
@@ -117,6 +121,7 @@ impl<M: PendingMap, D: SpillDevice> PendingWrites<M, D> {
     /// The bytes of the last entry in memory go to the device. Takes memory.
     pub fn spill_one(&mut self) -> SpillMove
         ensures step { MovesLast D.tells result self.old self.new }
+        ensures bytes { D.tells → pending_bytes self.new ≡ pending_bytes self.old }
     {
         move_last(&mut self.map, &mut self.spill)
     }

@@ -1,5 +1,15 @@
+use Rattle.std.proofs.Common.{◌≡◌, subst}
 use Rattle.pending_writes.proofs.SpillMoves.{sound-moved}
+use Rattle.pending_writes.specs.Bytes.{pending_bytes}
+use Rattle.pending_writes.specs.Writes.{PendingState, pending_state}
+use Rattle.pending_writes.proofs.BytesStay.{bytes_moved}
 use Rattle.pending_writes.proofs.writes.PendingWrites.spill_one.Goals as goal
 
 pub invariant_of-self : goal.invariant_of-self
 invariant_of-self g c = sound-moved _ _ _ _ (g.met.M.PendingMap.ordered c.self.inside.map) c.self.invariant c.move_last.ensures
+
+pub returns-clause-bytes : goal.returns-clause-bytes
+returns-clause-bytes g c =
+    let new = pending_state (g.M.PendingMap.entries c.move_last.new.map) c.move_last.new.spill in
+    subst (λ (p : PendingState). g.D.SpillDevice.tells → pending_bytes new ≡ pending_bytes p) c.self.view_is
+    (bytes_moved _ _ _ _ (g.met.M.PendingMap.ordered c.self.inside.map) c.self.invariant c.move_last.ensures)
