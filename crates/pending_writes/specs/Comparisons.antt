@@ -1,10 +1,11 @@
 -- How a write compares with a pending one, wherever its bytes are.
-use Rattle.std.specs.Prelude.{◌≡◌, ◌≢◌, ℕ, true, false, Option, Some, None, List, []}
+use Rattle.std.specs.Prelude.{◌≡◌, ◌≢◌, ℕ, true, false, Option, Some, None, List, [], find, length}
 use Rattle.spill_region.specs.Extents.{Span}
 use Rattle.spill.specs.Kept.{SpillState}
 use Rattle.range_map.specs.declared.entry.Entry.{Entry}
 use Rattle.range_map.specs.declared.entry.Place.{Place}
 use Rattle.range_map.specs.declared.entry.Place.TheVariants as place
+use Rattle.range_map.specs.Entries.{has_range}
 use Rattle.pending_writes.specs.declared.reports.Comparison.{Comparison}
 use Rattle.pending_writes.specs.declared.reports.Comparison.TheVariants as comparison
 use Rattle.pending_writes.specs.Extents.{extent_bytes}
@@ -29,6 +30,10 @@ ComparesThere tells e bytes comparison.NotThere old new = ⊥
 abbrev pub ComparesAt : Type 0 → Place → List ℕ → Comparison → SpillState → SpillState → Type 0
 ComparesAt tells (place.Memory held) bytes r old new = ComparesHere held bytes r × (new ≡ old)
 ComparesAt tells (place.Spilled e) bytes r old new = ComparesThere tells e bytes r old new
+
+-- the first pending write of its offset and count
+abbrev pub same_range : ℕ → List ℕ → List Entry → Option Entry
+same_range offset bytes es = find (has_range offset (length bytes)) es
 
 -- with the pending write of its range, if there is one
 abbrev pub Compares : Type 0 → Option Entry → List ℕ → Comparison → SpillState → SpillState → Type 0

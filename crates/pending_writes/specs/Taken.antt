@@ -2,12 +2,16 @@
 use Rattle.std.specs.Prelude.{Bool, List, [], ◌∷◌, ◌++◌}
 use Rattle.spill_region.specs.Extents.{Span, next_beside, without}
 use Rattle.spill.specs.Kept.{SpillState, extents_of, kept_without}
-use Rattle.pending_writes.specs.Extents.{are_live, held_extents}
+use Rattle.pending_writes.specs.Extents.{are_all_held, are_live, held_extents}
 use Rattle.pending_writes.specs.Writes.{PendingState}
 
 -- These extents are live beside those that entries hold, each held once.
 abbrev pub are_taken : List Span → PendingState → Bool
 are_taken taken s = are_live (taken ++ held_extents s.entries) (extents_of s.spill.kept)
+
+-- All that is live is held by entries.
+abbrev pub is_all_held : PendingState → Bool
+is_all_held s = are_all_held (held_extents s.entries) (extents_of s.spill.kept)
 
 -- the spill file where an extent is freed
 abbrev pub freed_spill : Span → SpillState → SpillState

@@ -1,8 +1,7 @@
 // A write is compared with a pending one.
-ghost use Rattle.std.specs.Prelude.{◌≡◌, ◌≤◌, true, find, length, [], ◌∷◌};
+ghost use Rattle.std.specs.Prelude.{◌≡◌, ◌≤◌, true, length, [], ◌∷◌};
 ghost use Rattle.spill.specs.Kept.{extents_of};
-ghost use Rattle.range_map.specs.Entries.{has_range};
-ghost use Rattle.pending_writes.specs.Comparisons.{Compares, ComparesAt, ComparesHere, ComparesThere};
+ghost use Rattle.pending_writes.specs.Comparisons.{Compares, ComparesAt, ComparesHere, ComparesThere, same_range};
 ghost use Rattle.pending_writes.specs.Extents.{are_live, held_extents, place_extents};
 
 use crate::Comparison;
@@ -57,7 +56,7 @@ pub(crate) fn compare_range<M: PendingMap, D: SpillDevice>(
 ) -> Comparison
     requires few { length bytes.now ≤ 1048576 }
     requires live { are_live (held_extents (M.entries map.now)) (extents_of spill.old.kept) ≡ true }
-    ensures { Compares D.tells (find (has_range offset (length bytes.now)) (M.entries map.now)) bytes.now result spill.old spill.new }
+    ensures { Compares D.tells (same_range offset bytes.now (M.entries map.now)) bytes.now result spill.old spill.new }
 {
     match map.same_range(offset, bytes.len() as u32) {
         Some(entry) => compare_at(spill, &entry.place, bytes),

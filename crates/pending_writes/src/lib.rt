@@ -10,3 +10,6 @@ mod writes;
 
 pub use reports::{Comparison, Load, SpillMove};
 pub use writes::PendingWrites;
+
+#[cfg(test)]
+mod tests;

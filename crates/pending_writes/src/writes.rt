@@ -1,14 +1,14 @@
 // Pending writes with the spill file of their bytes.
-ghost use Rattle.std.specs.Prelude.{◌≡◌, ◌≤◌, true, find, length, slice_get, IfErr, IfSome, OnErr, OnOk, IsTrue, [], ◌∷◌};
+ghost use Rattle.std.specs.Prelude.{◌≡◌, ◌≤◌, true, length, slice_get, IfErr, IfSome, OnErr, OnOk, IsTrue, [], ◌∷◌};
 ghost use Rattle.std.specs.Option.{option_copied};
-ghost use Rattle.range_map.specs.Entries.{commit_goal, has_range, is_in_memory, is_new, with_entry};
+ghost use Rattle.range_map.specs.Entries.{commit_goal, is_in_memory, is_new, with_entry};
 ghost use Rattle.spill.specs.Kept.{extents_of};
 ghost use Rattle.pending_writes.specs.Bytes.{pending_bytes};
-ghost use Rattle.pending_writes.specs.Comparisons.{Compares};
-ghost use Rattle.pending_writes.specs.Extents.{are_all_held, held_extents, live_without, place_extents};
+ghost use Rattle.pending_writes.specs.Comparisons.{Compares, same_range};
+ghost use Rattle.pending_writes.specs.Extents.{held_extents, live_without, place_extents};
 ghost use Rattle.pending_writes.specs.Moves.{MovesLast};
 ghost use Rattle.pending_writes.specs.Reads.{Loads};
-ghost use Rattle.pending_writes.specs.Taken.{are_taken, freed_all};
+ghost use Rattle.pending_writes.specs.Taken.{are_taken, freed_all, is_all_held};
 ghost use Rattle.pending_writes.specs.Writes.{beyond_first, first_reached, is_sound_entry};
 
 use crate::comparing::compare_range;
@@ -81,7 +81,7 @@ impl<M: PendingMap, D: SpillDevice> PendingWrites<M, D> {
     pub fn compare(&mut self, offset: u64, bytes: &[u8]) -> Comparison
         requires few { length bytes.now ≤ 1048576 }
         ensures bytes { D.tells → pending_bytes self.new ≡ pending_bytes self.old }
-        ensures comparison { Compares D.tells (find (has_range offset (length bytes.now)) self.old.entries) bytes.now result self.old.spill self.new.spill }
+        ensures comparison { Compares D.tells (same_range offset bytes.now self.old.entries) bytes.now result self.old.spill self.new.spill }
         ensures entries { self.new.entries ≡ self.old.entries }
     {
         compare_range(&self.map, &mut self.spill, offset, bytes)
@@ -113,7 +113,7 @@ impl<M: PendingMap, D: SpillDevice> PendingWrites<M, D> {
     pub fn give_up(&mut self)
         ensures freed { self.new ≡ record { entries = []; spill = freed_all (held_extents self.old.entries) self.old.spill } }
         ensures live { extents_of self.new.spill.kept ≡ live_without (held_extents self.old.entries) (extents_of self.old.spill.kept) }
-        ensures none { IsTrue (are_all_held (held_extents self.old.entries) (extents_of self.old.spill.kept)) → self.new.spill.kept ≡ [] }
+        ensures none { IsTrue (is_all_held self.old) → self.new.spill.kept ≡ [] }
     {
         free_all(&mut self.map, &mut self.spill);
     }
