@@ -98,10 +98,10 @@ bytes_moved tells move.Fault old new ordered sound h told =
       | Some e ↦ λ h. ap (λ (ks : List KeptExtent). map (entry_bytes ks) new.entries) (h.1.kept told) ∙ ap (map (entry_bytes old.spill.kept)) h.1.entries
     ] in
     go (last_of_memory old.entries) h
-bytes_moved tells (move.Moved number start) old new ordered sound h told =
+bytes_moved tells (move.Moved number weight start) old new ordered sound h told =
     let go : (o : Option Entry) → last_of_memory old.entries ≡ o
-    → IsSomeAnd o (λ e. FitsBehindLast old e × (number ≡ e.number) × (start ≡ old.spill.next) × IsMoved tells e old new) → pending_bytes new ≡ pending_bytes old = elim [
+    → IsSomeAnd o (λ e. FitsBehindLast old e × (number ≡ e.number) × (weight ≡ e.weight) × (start ≡ old.spill.next) × IsMoved tells e old new) → pending_bytes new ≡ pending_bytes old = elim [
       | None ↦ λ is h. absurd h
-      | Some e ↦ λ is h. bytes_moved_one tells e old new is ordered sound h.3 told
+      | Some e ↦ λ is h. bytes_moved_one tells e old new is ordered sound h.4 told
     ] in
     go (last_of_memory old.entries) refl h

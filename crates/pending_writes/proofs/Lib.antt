@@ -1,5 +1,6 @@
 pub mod BytesStay
 pub mod SameBytes
+pub mod EntryWeights
 pub mod Freed
 pub mod KeptBytes
 pub mod LastEntries

@@ -5,3 +5,4 @@ pub mod Reads
 pub mod Comparisons
 pub mod Moves
 pub mod Bytes
+pub mod Weights

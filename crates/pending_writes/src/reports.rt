@@ -7,8 +7,12 @@ use spill_region::Extent;
 pub enum SpillMove {
     /// No entry is in memory.
     Nothing,
-    /// The bytes of the entry of this number went to an extent that begins here.
-    Moved { number: u32, start: u64 },
+    /// The bytes of the entry of this number and weight went to an extent that begins here.
+    Moved {
+        number: u32,
+        weight: u32,
+        start: u64,
+    },
     /// They don't fit into the region.
     NoRoom,
     /// The device failed.

@@ -1,5 +1,5 @@
 // Pending writes with the spill file of their bytes.
-ghost use Rattle.std.specs.Prelude.{◌≡◌, ◌≤◌, true, length, slice_get, IfErr, IfSome, OnErr, OnOk, IsTrue, [], ◌∷◌};
+ghost use Rattle.std.specs.Prelude.{◌≡◌, ◌+◌, ◌≤◌, true, length, slice_get, IfErr, IfSome, OnErr, OnOk, IsTrue, [], ◌∷◌};
 ghost use Rattle.std.specs.Option.{option_copied};
 ghost use Rattle.range_map.specs.Entries.{commit_goal, is_in_memory, is_new, with_entry};
 ghost use Rattle.spill.specs.Kept.{extents_of};
@@ -9,6 +9,7 @@ ghost use Rattle.pending_writes.specs.Extents.{held_extents, live_without, place
 ghost use Rattle.pending_writes.specs.Moves.{MovesLast};
 ghost use Rattle.pending_writes.specs.Reads.{Loads};
 ghost use Rattle.pending_writes.specs.Taken.{are_taken, freed_all, is_all_held};
+ghost use Rattle.pending_writes.specs.Weights.{entries_weight, moved_weight, taken_weight};
 ghost use Rattle.pending_writes.specs.Writes.{beyond_first, first_reached, is_sound_entry};
 
 use crate::comparing::compare_range;
@@ -57,6 +58,7 @@ impl<M: PendingMap, D: SpillDevice> PendingWrites<M, D> {
         requires here { is_in_memory entry ≡ true }
         requires sound { is_sound_entry entry ≡ true }
         ensures ok { OnOk result (self.new ≡ record self.old { entries = with_entry entry self.old.entries }) }
+        ensures weight { OnOk result (entries_weight self.new.entries ≡ entry.weight + entries_weight self.old.entries) }
         ensures back { IfErr result (λ e. e ≡ entry) }
         ensures err { OnErr result (self.new ≡ self.old) }
     {
@@ -67,6 +69,7 @@ impl<M: PendingMap, D: SpillDevice> PendingWrites<M, D> {
     pub fn take_first(&mut self, reach: u64) -> Option<Entry>
         ensures first { result ≡ first_reached reach self.old.entries }
         ensures rest { self.new ≡ record self.old { entries = beyond_first reach self.old.entries } }
+        ensures weight { entries_weight self.old.entries ≡ taken_weight result + entries_weight self.new.entries }
         ensures taken { IfSome result (λ e. are_taken (place_extents e.place) self.new ≡ true) }
         ensures sound { IfSome result (λ e. is_sound_entry e ≡ true) }
     {
@@ -121,6 +124,7 @@ impl<M: PendingMap, D: SpillDevice> PendingWrites<M, D> {
     /// The bytes of the last entry in memory go to the device. Takes memory.
     pub fn spill_one(&mut self) -> SpillMove
         ensures step { MovesLast D.tells result self.old self.new }
+        ensures weight { entries_weight self.old.entries ≡ moved_weight result + entries_weight self.new.entries }
         ensures bytes { D.tells → pending_bytes self.new ≡ pending_bytes self.old }
     {
         move_last(&mut self.map, &mut self.spill)
