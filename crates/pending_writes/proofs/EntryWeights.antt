@@ -1,6 +1,6 @@
 -- What the entries in memory weigh as one comes, goes or moves to the device.
 use Rattle.std.proofs.Common.{◌≡◌, ℕ, ◌+◌, Bool, true, false, cond, Option, Some, None, List, [], ◌∷◌, ◌++◌, Result, Ok, Err, refl, sym, ◌∙◌, ap, subst, arith}
-use Rattle.std.specs.Prelude.{IsSomeAnd, nat_le}
+use Rattle.std.specs.Prelude.{IsSomeAnd}
 use Rattle.std.specs.Result.{OnOk}
 use Rattle.range_map.specs.declared.entry.Entry.{Entry}
 use Rattle.range_map.specs.declared.entry.Place.TheVariants.{Spilled}
@@ -8,8 +8,8 @@ use Rattle.range_map.specs.Entries.{is_before, is_in_memory, is_in_order, with_e
 use Rattle.pending_writes.specs.declared.reports.SpillMove.{SpillMove}
 use Rattle.pending_writes.specs.declared.reports.SpillMove.TheVariants as move
 use Rattle.pending_writes.specs.Moves.{FitsBehindLast, IsMoved, IsNotMoved, MovesLast, last_of_memory, next_extent}
-use Rattle.pending_writes.specs.Weights.{entries_weight, moved_weight, taken_weight, weight_here}
-use Rattle.pending_writes.specs.Writes.{PendingState, beyond_first, first_reached}
+use Rattle.pending_writes.specs.Weights.{entries_weight, moved_weight, weight_here}
+use Rattle.pending_writes.specs.Writes.{PendingState}
 use Rattle.pending_writes.proofs.LastEntries.{between_placed, last_between}
 
 weight_put_in : (e : Entry) (es : List Entry) → is_in_memory e ≡ true → entries_weight (with_entry e es) ≡ e.weight + entries_weight es

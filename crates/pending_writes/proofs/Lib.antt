@@ -8,3 +8,4 @@ pub mod LiveExtents
 pub mod SoundEntries
 pub mod SpillMoves
 pub mod Reading
+pub mod StayTaken

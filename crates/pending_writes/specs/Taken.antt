@@ -1,5 +1,5 @@
 -- What was taken off: its extent, and the spill file where that is freed.
-use Rattle.std.specs.Prelude.{Bool, List, [], ◌∷◌, ◌++◌}
+use Rattle.std.specs.Prelude.{◌≡◌, Bool, true, List, [], ◌∷◌, ◌++◌}
 use Rattle.spill_region.specs.Extents.{Span, next_beside, without}
 use Rattle.spill.specs.Kept.{SpillState, extents_of, kept_without}
 use Rattle.pending_writes.specs.Extents.{are_all_held, are_live, held_extents}
@@ -8,6 +8,10 @@ use Rattle.pending_writes.specs.Writes.{PendingState}
 -- These extents are live beside those that entries hold, each held once.
 abbrev pub are_taken : List Span → PendingState → Bool
 are_taken taken s = are_live (taken ++ held_extents s.entries) (extents_of s.spill.kept)
+
+-- Extents that were taken off stay so.
+abbrev pub KeepsTaken : PendingState → PendingState → Type 0
+KeepsTaken old new = (taken : List Span) → are_taken taken old ≡ true → are_taken taken new ≡ true
 
 -- All that is live is held by entries.
 abbrev pub is_all_held : PendingState → Bool

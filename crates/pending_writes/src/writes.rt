@@ -8,7 +8,7 @@ ghost use Rattle.pending_writes.specs.Comparisons.{Compares, same_range};
 ghost use Rattle.pending_writes.specs.Extents.{held_extents, live_without, place_extents};
 ghost use Rattle.pending_writes.specs.Moves.{MovesLast};
 ghost use Rattle.pending_writes.specs.Reads.{Loads};
-ghost use Rattle.pending_writes.specs.Taken.{are_taken, freed_all, is_all_held};
+ghost use Rattle.pending_writes.specs.Taken.{KeepsTaken, are_taken, freed_all, is_all_held};
 ghost use Rattle.pending_writes.specs.Weights.{entries_weight, moved_weight, taken_weight};
 ghost use Rattle.pending_writes.specs.Writes.{beyond_first, first_reached, is_sound_entry};
 
@@ -124,6 +124,7 @@ impl<M: PendingMap, D: SpillDevice> PendingWrites<M, D> {
     /// The bytes of the last entry in memory go to the device. Takes memory.
     pub fn spill_one(&mut self) -> SpillMove
         ensures step { MovesLast D.tells result self.old self.new }
+        ensures taken { KeepsTaken self.old self.new }
         ensures weight { entries_weight self.old.entries ≡ moved_weight result + entries_weight self.new.entries }
         ensures bytes { D.tells → pending_bytes self.new ≡ pending_bytes self.old }
     {
