@@ -41,6 +41,12 @@ read_freed tells failed e old mid new region kept faults tally freed rest same_f
   tally = same_tally ∙ tally;
 }
 
+pub read_lost : (tells : Type 0) (failed : Bool) (e : Span) (old mid new : SpillState)
+    → region_of mid ≡ region_of old → (tells → mid.kept ≡ old.kept) → RoseIf failed old.faults mid.faults → mid.tally ≡ one_call failed old.tally → new ≡ freed_spill e mid
+    → IsRead tells failed (e ∷ []) old new
+read_lost tells failed e old mid new region kept faults tally freed = read_freed tells failed e old mid new region kept faults tally
+    (ap region_of freed ∙ region_freed e mid) (ap (λ (s : SpillState). s.kept) freed) (ap (λ (s : SpillState). s.faults) freed) (ap (λ (s : SpillState). s.tally) freed)
+
 pub live_same : (a b : SpillState) → region_of a ≡ region_of b → extents_of a.kept ≡ extents_of b.kept
 live_same a b is = ap (λ (r : RegionState). r.live) is
 
