@@ -2,6 +2,7 @@ pub mod BytesStay
 pub mod SameBytes
 pub mod EntryWeights
 pub mod Freed
+pub mod GivenTickets
 pub mod KeptBytes
 pub mod LastEntries
 pub mod LiveExtents

@@ -74,6 +74,7 @@ fn a_spilled_write_is_compared_and_loaded(rt: HostRuntime) -> Result<(), Fail> {
         writes.spill_one(),
         SpillMove::Moved {
             number: 1,
+            weight: 1028,
             start: 0
         }
     );

@@ -1,7 +1,7 @@
 // Pending writes with the spill file of their bytes.
-ghost use Rattle.std.specs.Prelude.{◌≡◌, ◌+◌, ◌≤◌, true, length, slice_get, IfErr, IfSome, OnErr, OnOk, IsTrue, [], ◌∷◌};
+ghost use Rattle.std.specs.Prelude.{◌≡◌, ◌+◌, ◌≤◌, true, length, slice_get, IfErr, IfSome, OnErr, OnOk, IsNone, IsSomeAnd, IsTrue, find, [], ◌∷◌};
 ghost use Rattle.std.specs.Option.{option_copied};
-ghost use Rattle.range_map.specs.Entries.{commit_goal, is_in_memory, is_new, with_entry};
+ghost use Rattle.range_map.specs.Entries.{commit_goal, entry_at, has_range, is_in_memory, is_new, with_entry, with_ticket_at};
 ghost use Rattle.spill.specs.Kept.{extents_of};
 ghost use Rattle.pending_writes.specs.Bytes.{pending_bytes};
 ghost use Rattle.pending_writes.specs.Comparisons.{Compares, same_range};
@@ -17,11 +17,13 @@ use crate::freeing::{free_all, free_place};
 use crate::loading::load_extent;
 use crate::steps::move_last;
 use crate::{Comparison, Load, SpillMove};
+use gw_model::Stable;
 use range_map::{Entry, PendingMap, Place};
 use spill::{SpillDevice, SpillFile};
 use spill_region::Extent;
 use std::alloc::Global;
 use std::marker::Model;
+use tickets::Ticket;
 
 /// The pending writes of one open file, each in memory or in an extent of the spill file.
 #[derive(Drop)]
@@ -77,6 +79,23 @@ impl<M: PendingMap, D: SpillDevice> PendingWrites<M, D> {
             Some(entry) if entry.offset <= reach => self.map.pop_first(),
             _ => None,
         }
+    }
+
+    /// The first entry of this offset and count.
+    pub fn same_range(&self, offset: u64, count: u32) -> Option<&Entry>
+        ensures { option_copied result ≡ find (has_range offset count) self.now.entries }
+    {
+        self.map.same_range(offset, count)
+    }
+
+    /// Gives a ticket and its stability to the entry of this offset and number, which has none.
+    pub fn give_ticket(&mut self, offset: u64, number: u32, stable: Stable, ticket: Ticket)
+        requires { IsSomeAnd (entry_at offset number self.old.entries) (λ e. IsNone e.ticket) }
+        ensures given { self.new ≡ record self.old { entries = with_ticket_at offset number stable ticket self.old.entries } }
+        ensures bytes { pending_bytes self.new ≡ pending_bytes self.old }
+        ensures weight { entries_weight self.new.entries ≡ entries_weight self.old.entries }
+    {
+        self.map.give_ticket(offset, number, stable, ticket);
     }
 
     /// Compares a write with the first pending one of its offset and count. Nothing changes but what the device counts,

@@ -1,4 +1,4 @@
-use Rattle.std.proofs.Common.{length, sym}
+use Rattle.std.proofs.Common.{◌≡◌, Some, find, length, sym}
 use Rattle.spill.specs.Kept.{extents_of}
 use Rattle.range_map.specs.Entries.{has_range}
 use Rattle.pending_writes.proofs.SameBytes.{found_live}
@@ -8,4 +8,5 @@ pub compare_at-requires : goal.compare_at-requires
 compare_at-requires g c =
     let es = g.M.PendingMap.entries c.args.map.now in
     let t = has_range c.args.offset (length c.args.bytes.now) in
-    found_live t es c.in-Some.entry.now (extents_of c.args.spill.now.kept) (sym c.in-Some.ensures) c.requires.live
+    let found : find t es ≡ Some c.in-Some.entry.now = sym c.in-Some.ensures in
+    found_live t es c.in-Some.entry.now (extents_of c.args.spill.now.kept) found c.requires.live
