@@ -1,6 +1,5 @@
 -- Where an entry takes a ticket nothing else of it changes.
-use Rattle.std.proofs.Common.{◌≡◌, ℕ, ◌+◌, Bool, true, false, cond, Option, Some, List, [], ◌∷◌, ◌++◌, map, refl, sym, ◌∙◌, ap, subst}
-use Rattle.std.specs.Prelude.{◌&&◌}
+use Rattle.std.proofs.Common.{◌≡◌, ℕ, Bool, true, false, cond, Some, List, [], ◌∷◌, map, refl, ◌∙◌, ap}
 use Rattle.std.specs.List.{list_all}
 use Rattle.gw_model.specs.declared.Stable.{Stable}
 use Rattle.tickets.specs.Desk.{TicketId}

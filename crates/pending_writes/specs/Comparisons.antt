@@ -10,6 +10,7 @@ use Rattle.pending_writes.specs.declared.reports.Comparison.{Comparison}
 use Rattle.pending_writes.specs.declared.reports.Comparison.TheVariants as comparison
 use Rattle.pending_writes.specs.Extents.{extent_bytes}
 use Rattle.pending_writes.specs.Reads.{IsRead}
+use Rattle.pending_writes.specs.Writes.{PendingState}
 
 -- with bytes in memory: no call is made
 abbrev pub ComparesHere : List ℕ → List ℕ → Comparison → Type 0
@@ -39,3 +40,7 @@ same_range offset bytes es = find (has_range offset (length bytes)) es
 abbrev pub Compares : Type 0 → Option Entry → List ℕ → Comparison → SpillState → SpillState → Type 0
 Compares tells None bytes r old new = (r ≡ comparison.NotThere) × (new ≡ old)
 Compares tells (Some e) bytes r old new = ComparesAt tells e.place bytes r old new
+
+-- a write, with those that are pending
+abbrev pub ComparesWrite : Type 0 → ℕ → List ℕ → Comparison → PendingState → PendingState → Type 0
+ComparesWrite tells offset bytes r old new = Compares tells (same_range offset bytes old.entries) bytes r old.spill new.spill

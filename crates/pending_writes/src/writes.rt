@@ -4,7 +4,7 @@ ghost use Rattle.std.specs.Option.{option_copied};
 ghost use Rattle.range_map.specs.Entries.{commit_goal, entry_at, has_range, is_in_memory, is_new, with_entry, with_ticket_at};
 ghost use Rattle.spill.specs.Kept.{extents_of};
 ghost use Rattle.pending_writes.specs.Bytes.{pending_bytes};
-ghost use Rattle.pending_writes.specs.Comparisons.{Compares, same_range};
+ghost use Rattle.pending_writes.specs.Comparisons.{ComparesWrite};
 ghost use Rattle.pending_writes.specs.Extents.{held_extents, live_without, place_extents};
 ghost use Rattle.pending_writes.specs.Moves.{MovesLast};
 ghost use Rattle.pending_writes.specs.Reads.{Loads};
@@ -103,7 +103,7 @@ impl<M: PendingMap, D: SpillDevice> PendingWrites<M, D> {
     pub fn compare(&mut self, offset: u64, bytes: &[u8]) -> Comparison
         requires few { length bytes.now ≤ 1048576 }
         ensures bytes { D.tells → pending_bytes self.new ≡ pending_bytes self.old }
-        ensures comparison { Compares D.tells (same_range offset bytes.now self.old.entries) bytes.now result self.old.spill self.new.spill }
+        ensures comparison { ComparesWrite D.tells offset bytes.now result self.old self.new }
         ensures entries { self.new.entries ≡ self.old.entries }
     {
         compare_range(&self.map, &mut self.spill, offset, bytes)
