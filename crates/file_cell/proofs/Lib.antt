@@ -1,5 +1,5 @@
 pub mod State
-pub mod WriterSide
+pub mod WriterTurns
 pub mod Files
 pub mod Cells
 pub mod Syncs

@@ -2,3 +2,4 @@ pub mod State
 pub mod Steps
 pub mod Files
 pub mod History
+pub mod Sides

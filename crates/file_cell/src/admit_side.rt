@@ -29,7 +29,7 @@ pub enum Ticked {
 
 /// The admission side of an open file, with the end of its line that sends: what may lie under a lock of its own.
 #[derive(Drop)]
-pub(crate) struct AdmitSide<M: PendingMap> {
+pub struct AdmitSide<M: PendingMap> {
     pub(crate) id: FileId,
     // How many bytes the file had when it was opened.
     pub(crate) base: u64,
@@ -48,7 +48,7 @@ impl<M: PendingMap> Model for AdmitSide<M> {
 
 impl<M: PendingMap> AdmitSide<M> {
     /// Takes a WRITE in. Takes memory.
-    pub(crate) fn write(&mut self, request: WriteReq) -> Verdict
+    pub fn write(&mut self, request: WriteReq) -> Verdict
         requires fits { request.offset + length request.bytes < end_limit }
         requires count { length request.bytes ≤ max_transfer }
         ensures step { TellsWrite result self.old.admit request self.new.admit }
@@ -59,7 +59,7 @@ impl<M: PendingMap> AdmitSide<M> {
     }
 
     /// Takes a COMMIT in. Takes memory.
-    pub(crate) fn commit(&mut self, request: CommitReq) -> Verdict
+    pub fn commit(&mut self, request: CommitReq) -> Verdict
         ensures step { TellsCommit result self.old.admit request self.new.admit }
         ensures stands { Commits result self.old.admit request self.new.admit }
         ensures rest { self.new ≡ record self.old { admit = self.new.admit } }
@@ -68,7 +68,7 @@ impl<M: PendingMap> AdmitSide<M> {
     }
 
     /// Takes a READ in. Takes memory.
-    pub(crate) fn read(&mut self, request: ReadReq) -> Verdict
+    pub fn read(&mut self, request: ReadReq) -> Verdict
         ensures step { TellsRead result self.old.admit request self.new.admit }
         ensures stands { Fetches result self.old.admit request self.new.admit }
         ensures rest { self.new ≡ record self.old { admit = self.new.admit } }
@@ -115,7 +115,7 @@ impl<M: PendingMap> AdmitSide<M> {
 
     /// Judges the file at a moment, and gives up its pending writes and waiting COMMITs where it wasn't used for so long.
     /// Takes no memory.
-    pub(crate) fn tick(&mut self, moment: u64, owes: bool) -> Ticked
+    pub fn tick(&mut self, moment: u64, owes: bool) -> Ticked
         requires none_left { self.old.admit.left ≡ [] }
         ensures judged { result ≡ ticked_of (tick_judgement self.old.admit.limits self.old.admit.side owes moment) }
         ensures step { self.new.admit ≡ ticked_admit result moment self.old.admit }
@@ -129,7 +129,7 @@ impl<M: PendingMap> AdmitSide<M> {
     }
 
     /// Hears of the writer, and sends what is ready. Takes no memory.
-    pub(crate) fn pump_step(&mut self, news: News) -> Pumped
+    pub fn pump_step(&mut self, news: News) -> Pumped
         requires none_left { self.old.admit.left ≡ [] }
         ensures step { let told = side_pump_step self.old.admit.limits (news_of news) self.old.admit.side in
             self.new.admit ≡ pump_state told self.new.admit.line self.old.admit }
@@ -142,7 +142,7 @@ impl<M: PendingMap> AdmitSide<M> {
     }
 
     /// Looks anew for free slots, by this end of the line alone. After it fewer jobs may be held as sent. Takes no memory.
-    pub(crate) fn look(&mut self)
+    pub fn look(&mut self)
         ensures same { SameContextIn self.old.admit.line self.new.admit.line }
         ensures sent { jobs_sent self.new.admit.line ≡ jobs_sent self.old.admit.line }
         ensures heard { self.old.admit.heard ≤ self.new.admit.heard }
@@ -153,28 +153,28 @@ impl<M: PendingMap> AdmitSide<M> {
     }
 
     /// How many marks its end of the line has sent.
-    pub(crate) fn begun(&self) -> u64
+    pub fn begun(&self) -> u64
         ensures { result ≡ self.now.admit.line.begun }
     {
         self.admit.begun()
     }
 
     /// The moment of the last use of the file, or when it was opened.
-    pub(crate) fn used(&self) -> u64
+    pub fn used(&self) -> u64
         ensures { result ≡ self.now.admit.side.held.used }
     {
         self.admit.used()
     }
 
     /// Whether the file takes no writes any more.
-    pub(crate) fn is_stale(&self) -> bool
+    pub fn is_stale(&self) -> bool
         ensures { result ≡ is_stale self.now.admit.side.held.phase }
     {
         self.admit.is_stale()
     }
 
     /// The next answer that a call left. Takes no memory.
-    pub(crate) fn next_answer(&mut self) -> Option<Answer>
+    pub fn next_answer(&mut self) -> Option<Answer>
         ensures hands { Hands result self.old.admit.left self.new.admit.left }
         ensures rest { self.new ≡ record self.old { admit = record self.old.admit { left = self.new.admit.left } } }
     {
@@ -182,14 +182,14 @@ impl<M: PendingMap> AdmitSide<M> {
     }
 
     /// The length up to which the accepted writes have left no hole.
-    pub(crate) fn reach(&self) -> u64
+    pub fn reach(&self) -> u64
         ensures { result ≡ self.now.admit.side.seen.reach }
     {
         self.admit.reach()
     }
 
     /// The moment of the last accepted write.
-    pub(crate) fn changed(&self) -> Option<u64>
+    pub fn changed(&self) -> Option<u64>
         ensures { result ≡ self.now.admit.side.held.changed }
     {
         self.admit.changed()
@@ -197,14 +197,14 @@ impl<M: PendingMap> AdmitSide<M> {
 
     /// Whether no job is held as sent.
     #[tactic(auto, using(crate::proofs::Cells::empty_is))]
-    pub(crate) fn is_line_empty(&self) -> bool
+    pub fn is_line_empty(&self) -> bool
         ensures { result ≡ is_empty self.now.admit.side.held.line }
     {
         self.admit.in_line() == 0
     }
 
     /// Whether nothing is pending, ready, waiting or held as sent.
-    pub(crate) fn is_quiet(&self) -> bool
+    pub fn is_quiet(&self) -> bool
         ensures { result ≡ is_quiet self.now.admit.side }
     {
         self.admit.is_empty() && self.is_line_empty()

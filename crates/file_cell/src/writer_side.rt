@@ -28,7 +28,7 @@ pub enum Stepped {
 
 /// The writer side of an open file, with the end of its line that takes: what may lie under a lock of its own.
 #[derive(Drop)]
-pub(crate) struct WriterSide<F: AppendFile> {
+pub struct WriterSide<F: AppendFile> {
     pub(crate) writer: Writer<F>,
     pub(crate) output: LineOut,
     // What the last turn answered.
@@ -49,7 +49,7 @@ impl<F: AppendFile> Model for WriterSide<F> {
 impl<F: AppendFile> WriterSide<F> {
     /// Does the next job that is known, where there is room for its ticket. The trace has room for a note. Takes memory for a
     /// READ alone.
-    pub(crate) fn write_step(&mut self, trace: &mut Trace) -> Stepped
+    pub fn write_step(&mut self, trace: &mut Trace) -> Stepped
         requires none_left { self.old.left ≡ [] }
         requires noted { 0 < trace.old.room }
         ensures step { SideSteps F.tells result self.old self.new trace.old trace.new }
@@ -66,7 +66,7 @@ impl<F: AppendFile> WriterSide<F> {
 
     /// Calls hsync, by which those that wait for a sync are answered: their answers are left. The trace has room for a note.
     /// Takes no memory.
-    pub(crate) fn sync_step(&mut self, trace: &mut Trace) -> Synced
+    pub fn sync_step(&mut self, trace: &mut Trace) -> Synced
         requires none_left { self.old.left ≡ [] }
         requires noted { 0 < trace.old.room }
         ensures step { self.new ≡ synced_side result self.new.file self.old }
@@ -78,7 +78,7 @@ impl<F: AppendFile> WriterSide<F> {
     }
 
     /// What is heard of the writer.
-    pub(crate) fn news(&self) -> News
+    pub fn news(&self) -> News
         ensures { news_of result ≡ self.now.writer.failed }
     {
         let failed = self.writer.failed().map(|failed| Failed {
@@ -89,21 +89,21 @@ impl<F: AppendFile> WriterSide<F> {
     }
 
     /// How many marks its end of the line has taken.
-    pub(crate) fn begun(&self) -> u64
+    pub fn begun(&self) -> u64
         ensures { result ≡ self.now.output.begun }
     {
         self.output.begun()
     }
 
     /// Whether fewer than 1,024 tickets wait for a sync.
-    pub(crate) fn room(&self) -> bool
+    pub fn room(&self) -> bool
         ensures { result ≡ nat_lt (length self.now.writer.owed) max_waiting }
     {
         self.writer.room()
     }
 
     /// How many tickets wait for a sync.
-    pub(crate) fn waiting(&self) -> usize
+    pub fn waiting(&self) -> usize
         ensures { result ≡ length self.now.writer.owed }
     {
         self.writer.waiting()
@@ -111,14 +111,14 @@ impl<F: AppendFile> WriterSide<F> {
 
     /// Whether a ticket waits for a sync.
     #[tactic(auto, using(crate::proofs::Cells::empty_is))]
-    pub(crate) fn owes(&self) -> bool
+    pub fn owes(&self) -> bool
         ensures { result ≡ not (is_empty self.now.writer.owed) }
     {
         self.writer.waiting() != 0
     }
 
     /// The next answer that a step left: that of a turn, then those of a sync. Takes no memory.
-    pub(crate) fn next_answer(&mut self) -> Option<Answer>
+    pub fn next_answer(&mut self) -> Option<Answer>
         ensures hands { Hands result self.old.left self.new.left }
         ensures rest { self.new ≡ record self.old { left = self.new.left } }
     {

@@ -1,4 +1,4 @@
-use Rattle.file_cell.proofs.WriterSide.{turn_within}
+use Rattle.file_cell.proofs.WriterTurns.{turn_within}
 use Rattle.file_cell.proofs.writer_side.WriterSide.write_step.Goals as goal
 
 pub invariant_of-self-2 : goal.invariant_of-self-2
