@@ -8,3 +8,4 @@ pub mod Hearing
 pub mod Closings
 pub mod ClosedFiles
 pub mod Histories
+pub mod Storing

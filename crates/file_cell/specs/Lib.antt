@@ -3,3 +3,4 @@ pub mod Steps
 pub mod Files
 pub mod History
 pub mod Sides
+pub mod Stored

@@ -3,6 +3,8 @@ ghost use Rattle.std.specs.Prelude.{◌≡◌};
 ghost use Rattle.file_cell.specs.State.{IsJoined, cell_of};
 ghost use Rattle.file_cell.specs.Sides.{AreOneFile};
 ghost use Rattle.file_cell.specs.Steps.{IsLooked, counted_admit};
+ghost use Rattle.file_cell.specs.State.{IsWithinTaken};
+ghost use Rattle.file_cell.specs.Stored.{IsWritten};
 
 use crate::admit_side::AdmitSide;
 use crate::cell::{FileCell, look_beside};
@@ -45,4 +47,15 @@ pub fn join_sides<F: AppendFile, M: PendingMap>(
     ensures same { result ≡ cell_of admit writer }
 {
     FileCell { admit, writer }
+}
+
+impl<F: AppendFile> WriterSide<F> {
+    /// What is kept under a writer lock: what the jobs that were taken since the mark added stands behind the bytes that the file
+    /// had at the mark. A law; the function does nothing.
+    pub fn written_law(&self)
+        ensures written { IsWritten F.tells self.now.writer self.now.file.content self.now.output }
+        ensures within { IsWithinTaken self.now.writer self.now.output }
+    {
+        let _ = &self.writer;
+    }
 }

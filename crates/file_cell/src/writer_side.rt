@@ -38,12 +38,15 @@ pub struct WriterSide<F: AppendFile> {
 impl<F: AppendFile> Model for WriterSide<F> {
     ghost use Rattle.tickets.specs.Answers.{ArePlain};
     ghost use Rattle.file_cell.specs.State.{IsWithinTaken, WriterSideState, writer_side_of};
+    ghost use Rattle.file_cell.specs.Stored.{IsWritten};
 
     ghost Value = { WriterSideState };
 
     ghost view = { λ w. writer_side_of w.writer w.turned w.output };
 
-    ghost invariant = { λ w. IsWithinTaken w.writer.writer w.output × ArePlain w.turned };
+    ghost invariant = { λ w. IsWithinTaken w.writer.writer w.output
+        × ArePlain w.turned
+        × IsWritten F.tells w.writer.writer w.writer.file.content w.output };
 }
 
 impl<F: AppendFile> WriterSide<F> {
