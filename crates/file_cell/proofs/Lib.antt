@@ -9,3 +9,4 @@ pub mod Closings
 pub mod ClosedFiles
 pub mod Histories
 pub mod Storing
+pub mod Rounds

@@ -4,3 +4,4 @@ pub mod Files
 pub mod History
 pub mod Sides
 pub mod Stored
+pub mod Rounds

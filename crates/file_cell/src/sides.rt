@@ -1,16 +1,20 @@
 // The two sides of an open file apart, so that each may lie under a lock of its own.
-ghost use Rattle.std.specs.Prelude.{◌≡◌};
+ghost use Rattle.std.specs.Prelude.{◌≡◌, ◌+◌, ◌<◌, ◌≤◌, [], vec_len};
+ghost use Rattle.std.specs.Vec.{vec_capacity};
 ghost use Rattle.file_cell.specs.State.{IsJoined, cell_of};
 ghost use Rattle.file_cell.specs.Sides.{AreOneFile};
 ghost use Rattle.file_cell.specs.Steps.{IsLooked, counted_admit};
 ghost use Rattle.file_cell.specs.State.{IsWithinTaken};
 ghost use Rattle.file_cell.specs.Stored.{IsWritten};
+ghost use Rattle.file_cell.specs.Rounds.{IsRound, with_answer};
 
 use crate::admit_side::AdmitSide;
 use crate::cell::{FileCell, look_beside};
-use crate::writer_side::WriterSide;
+use crate::writer_side::{Stepped, Turned, WriterSide};
 use append_store::AppendFile;
+use gw_model::Trace;
 use range_map::PendingMap;
+use tickets::Answer;
 
 impl<F: AppendFile, M: PendingMap> FileCell<F, M> {
     /// Takes an open file apart. `join_sides` makes just this file of its sides.
@@ -49,7 +53,60 @@ pub fn join_sides<F: AppendFile, M: PendingMap>(
     FileCell { admit, writer }
 }
 
+/// What a round did.
+#[derive(Clone, Copy, Debug, Drop)]
+pub struct Round {
+    /// How many jobs were done.
+    pub done: usize,
+    /// `Did` where these are as many as were asked for, and else why the next one wasn't done.
+    pub ended: Stepped,
+}
+
+// Puts an answer behind those that are held, where there is room for it.
+fn hold(answers: &mut Vec<Answer>, answer: Option<Answer>)
+    requires space { vec_len answers.old < vec_capacity answers.old }
+    ensures items { answers.new.items ≡ with_answer answers.old.items answer }
+    ensures len { vec_len answers.new ≤ vec_len answers.old + 1 }
+    ensures capacity { vec_capacity answers.new ≡ vec_capacity answers.old }
+{
+    if let Some(answer) = answer {
+        answers.push_reserved(answer);
+    }
+}
+
 impl<F: AppendFile> WriterSide<F> {
+    /// Does the jobs that are known to be in the line, in order, but `most` of them at most, and no further one where as many tickets
+    /// wait for a sync as may. Their answers go behind those of `answers`. There and in the trace is room for so many. Takes memory
+    /// for READs alone.
+    pub fn round(&mut self, most: usize, answers: &mut Vec<Answer>, trace: &mut Trace) -> Round
+        requires none_left { self.old.left ≡ [] }
+        requires noted { most ≤ trace.old.room }
+        requires space { vec_len answers.old + most ≤ vec_capacity answers.old }
+        ensures round { IsRound F.tells result most self.old self.new trace.old trace.new answers.old.items answers.new.items }
+        ensures none_left { self.new.left ≡ [] }
+        ensures capacity { vec_capacity answers.new ≡ vec_capacity answers.old }
+    {
+        let mut done = 0;
+        while done < most {
+            match self.do_next(trace) {
+                Turned::SyncFirst => return Round {
+                    done,
+                    ended: Stepped::SyncFirst,
+                },
+                Turned::Nothing => return Round {
+                    done,
+                    ended: Stepped::Nothing,
+                },
+                Turned::Did(answer) => hold(answers, answer),
+            }
+            done += 1;
+        }
+        Round {
+            done,
+            ended: Stepped::Did,
+        }
+    }
+
     /// What is kept under a writer lock: what the jobs that were taken since the mark added stands behind the bytes that the file
     /// had at the mark. A law; the function does nothing.
     pub fn written_law(&self)

@@ -6,6 +6,7 @@ ghost use Rattle.admit.specs.Calls.{news_of};
 ghost use Rattle.admit.specs.GivenUp.{Hands};
 ghost use Rattle.writeback.specs.Steps.{IsDurable, Leaves, sync_call, with_calls};
 ghost use Rattle.file_cell.specs.Steps.{SideSteps, synced_side};
+ghost use Rattle.file_cell.specs.Rounds.{DoesNext};
 
 use admit::{Failed, News};
 use append_store::AppendFile;
@@ -24,6 +25,17 @@ pub enum Stepped {
     Nothing,
     /// It did the first job of the line. The answer is left.
     Did,
+}
+
+/// What came of the next job.
+#[derive(Debug, Drop)]
+pub(crate) enum Turned {
+    /// It wasn't taken: as many tickets wait for a sync as may.
+    SyncFirst,
+    /// None was known.
+    Nothing,
+    /// It was done, with this answer, unless its ticket waits for a sync.
+    Did(Option<Answer>),
 }
 
 /// The writer side of an open file, with the end of its line that takes: what may lie under a lock of its own.
@@ -50,6 +62,21 @@ impl<F: AppendFile> Model for WriterSide<F> {
 }
 
 impl<F: AppendFile> WriterSide<F> {
+    // Does the next job that is known, where there is room for its ticket, and hands its answer out.
+    pub(crate) fn do_next(&mut self, trace: &mut Trace) -> Turned
+        requires none_left { self.old.left ≡ [] }
+        requires noted { 0 < trace.old.room }
+        ensures step { DoesNext F.tells result self.old self.new trace.old trace.new }
+    {
+        if !self.writer.room() {
+            return Turned::SyncFirst;
+        }
+        let Some(job) = self.output.take() else {
+            return Turned::Nothing;
+        };
+        Turned::Did(self.writer.turn(job, trace))
+    }
+
     /// Does the next job that is known, where there is room for its ticket. The trace has room for a note. Takes memory for a
     /// READ alone.
     pub fn write_step(&mut self, trace: &mut Trace) -> Stepped
@@ -57,14 +84,14 @@ impl<F: AppendFile> WriterSide<F> {
         requires noted { 0 < trace.old.room }
         ensures step { SideSteps F.tells result self.old self.new trace.old trace.new }
     {
-        if !self.writer.room() {
-            return Stepped::SyncFirst;
+        match self.do_next(trace) {
+            Turned::SyncFirst => Stepped::SyncFirst,
+            Turned::Nothing => Stepped::Nothing,
+            Turned::Did(answer) => {
+                self.turned = answer;
+                Stepped::Did
+            }
         }
-        let Some(job) = self.output.take() else {
-            return Stepped::Nothing;
-        };
-        self.turned = self.writer.turn(job, trace);
-        Stepped::Did
     }
 
     /// Calls hsync, by which those that wait for a sync are answered: their answers are left. The trace has room for a note.
