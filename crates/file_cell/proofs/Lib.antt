@@ -10,3 +10,4 @@ pub mod ClosedFiles
 pub mod Histories
 pub mod Storing
 pub mod Rounds
+pub mod Issuing

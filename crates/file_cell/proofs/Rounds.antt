@@ -1,10 +1,10 @@
 -- Rounds of a writer side.
-use Rattle.std.proofs.Common.{◌≡◌, ℕ, ◌+◌, ◌≤◌, Option, List, ◌∷◌, length, refl, sym, ◌∙◌, ap, subst, arith}
+use Rattle.std.proofs.Common.{◌≡◌, ℕ, ◌+◌, ◌≤◌, Option, List, ◌∷◌, refl, sym, ◌∙◌, ap, subst, arith}
 use Rattle.gw_model.specs.Views.{TraceState}
 use Rattle.tickets.specs.declared.answer.Answer as spent
 use Rattle.file_cell.specs.State.{WriterSideState}
 use Rattle.file_cell.specs.Steps.{SideSteps}
-use Rattle.file_cell.specs.Rounds.{HasTurned, IsRound, SideTurned, TurnSeen, noted_after, side_after, with_answer}
+use Rattle.file_cell.specs.Rounds.{HasTurned, IsRound, SideTurned, side_after, with_answer}
 use Rattle.file_cell.specs.declared.writer_side.Stepped.TheVariants.{SyncFirst, Nothing, Did}
 
 -- one turn more

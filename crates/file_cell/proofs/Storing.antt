@@ -1,9 +1,9 @@
 -- What a writer side stored since the mark of its line, after each of its steps.
-use Rattle.std.proofs.Common.{◌≡◌, ℕ, ◌+◌, ◌≤◌, Option, Some, None, List, [], ◌∷◌, ◌++◌, length, take, refl, sym, ◌∙◌, ap, subst, append-nil, append_assoc, arith, inl, inr, length-append}
-use Rattle.gw_model.specs.File.{Failure, Writer}
+use Rattle.std.proofs.Common.{◌≡◌, ℕ, ◌+◌, Some, List, [], ◌∷◌, ◌++◌, length, refl, sym, ◌∙◌, ap, subst, append-nil, append_assoc, arith, inl, inr, length-append}
+use Rattle.gw_model.specs.File.{Writer}
 use Rattle.gw_model.specs.Ahead.{CallResult}
 use Rattle.job_line.specs.Items.{base_of}
-use Rattle.job_line.specs.Ends.{SameContextOut, base_taken, jobs_taken, mark_taken}
+use Rattle.job_line.specs.Ends.{base_taken, jobs_taken, mark_taken}
 use Rattle.job_line.specs.declared.items.Job.{Job}
 use Rattle.job_line.specs.declared.ends.LineOut.{LineOut}
 use Rattle.job_line.specs.declared.items.Mark.{Mark}

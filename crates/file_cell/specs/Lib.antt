@@ -5,3 +5,4 @@ pub mod History
 pub mod Sides
 pub mod Stored
 pub mod Rounds
+pub mod Issued

@@ -1,5 +1,5 @@
 -- Turns of a writer side by itself, and rounds of them.
-use Rattle.std.specs.Prelude.{◌≡◌, ℕ, ◌+◌, ◌<◌, ◌≤◌, List, [], ◌∷◌, ◌++◌, length, Option, Some, None, slice_get}
+use Rattle.std.specs.Prelude.{◌≡◌, ℕ, ◌<◌, ◌≤◌, List, [], ◌∷◌, ◌++◌, length, Option, Some, None, slice_get}
 use Rattle.gw_model.specs.Bounds.{max_waiting}
 use Rattle.gw_model.specs.Views.{TraceState}
 use Rattle.job_line.specs.Ends.{SameContextOut, jobs_known, jobs_taken}

@@ -37,13 +37,14 @@ pub struct AdmitSide<M: PendingMap> {
 }
 
 impl<M: PendingMap> Model for AdmitSide<M> {
-    ghost use Rattle.file_cell.specs.State.{AdmitSideState, IsMarked};
+    ghost use Rattle.file_cell.specs.State.{AdmitSideState};
+    ghost use Rattle.file_cell.specs.Issued.{IssuesFold};
 
     ghost Value = { AdmitSideState };
 
     ghost view = { λ a. record { id = a.id; base = a.base; admit = a.admit } };
 
-    ghost invariant = { λ a. IsMarked (record { id = a.id; base = a.base; admit = a.admit }) };
+    ghost invariant = { λ a. IssuesFold (record { id = a.id; base = a.base; admit = a.admit }) };
 }
 
 impl<M: PendingMap> AdmitSide<M> {
@@ -55,6 +56,7 @@ impl<M: PendingMap> AdmitSide<M> {
         ensures stands { Writes result self.old.admit request self.new.admit }
         ensures rest { self.new ≡ record self.old { admit = self.new.admit } }
     {
+        self.admit.line_law();
         self.admit.receive(request)
     }
 
@@ -64,6 +66,7 @@ impl<M: PendingMap> AdmitSide<M> {
         ensures stands { Commits result self.old.admit request self.new.admit }
         ensures rest { self.new ≡ record self.old { admit = self.new.admit } }
     {
+        self.admit.line_law();
         self.admit.commit(request)
     }
 
@@ -73,6 +76,7 @@ impl<M: PendingMap> AdmitSide<M> {
         ensures stands { Fetches result self.old.admit request self.new.admit }
         ensures rest { self.new ≡ record self.old { admit = self.new.admit } }
     {
+        self.admit.line_law();
         self.admit.fetch(request)
     }
 
@@ -138,6 +142,7 @@ impl<M: PendingMap> AdmitSide<M> {
         ensures pumped { IsPumped result self.old.admit self.new.admit }
         ensures rest { self.new ≡ record self.old { admit = self.new.admit } }
     {
+        self.admit.line_law();
         self.admit.pump(news)
     }
 
@@ -149,7 +154,9 @@ impl<M: PendingMap> AdmitSide<M> {
         ensures step { let new = self.new.admit in new ≡ with_heard new.side.held.line new.line new.heard self.old.admit }
         ensures rest { self.new ≡ record self.old { admit = self.new.admit } }
     {
+        self.admit.line_law();
         self.admit.look();
+        self.admit.line_law();
     }
 
     /// How many marks its end of the line has sent.

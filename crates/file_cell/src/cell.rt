@@ -58,6 +58,7 @@ pub(crate) fn look_beside<F: AppendFile, M: PendingMap>(
 {
     admit.admit.line_law();
     admit.admit.beside(&mut writer.output);
+    admit.admit.line_law();
 }
 
 impl<F: AppendFile, M: PendingMap> FileCell<F, M> {
