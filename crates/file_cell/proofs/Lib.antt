@@ -11,3 +11,4 @@ pub mod Histories
 pub mod Storing
 pub mod Rounds
 pub mod Issuing
+pub mod Fronts

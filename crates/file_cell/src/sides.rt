@@ -1,12 +1,12 @@
 // The two sides of an open file apart, so that each may lie under a lock of its own.
-ghost use Rattle.std.specs.Prelude.{◌≡◌, ◌+◌, ◌<◌, ◌≤◌, [], vec_len};
+ghost use Rattle.std.specs.Prelude.{◌≡◌, ℕ, ◌+◌, ◌<◌, ◌≤◌, List, [], length, vec_len};
 ghost use Rattle.std.specs.Vec.{vec_capacity};
-ghost use Rattle.file_cell.specs.State.{IsJoined, cell_of};
-ghost use Rattle.file_cell.specs.Sides.{AreOneFile};
-ghost use Rattle.file_cell.specs.Steps.{IsLooked, counted_admit};
-ghost use Rattle.file_cell.specs.State.{IsWithinTaken};
-ghost use Rattle.file_cell.specs.Stored.{IsWritten};
+ghost use Rattle.file_cell.specs.Issued.{SendsFold};
 ghost use Rattle.file_cell.specs.Rounds.{IsRound, with_answer};
+ghost use Rattle.file_cell.specs.Sides.{AreOneFile, HoldsFront};
+ghost use Rattle.file_cell.specs.State.{IsJoined, IsMarked, IsWithinTaken, cell_of};
+ghost use Rattle.file_cell.specs.Steps.{IsLooked, counted_admit};
+ghost use Rattle.file_cell.specs.Stored.{IsWritten};
 
 use crate::admit_side::AdmitSide;
 use crate::cell::{FileCell, look_beside};
@@ -38,8 +38,11 @@ pub fn meet_sides<F: AppendFile, M: PendingMap>(
     ensures looked { IsLooked admit.old.admit.line writer.old.output admit.new.admit.line writer.new.output }
     ensures admit { admit.new ≡ record admit.old { admit = counted_admit admit.new.admit.line writer.new.output admit.old.admit } }
     ensures writer { writer.new ≡ record writer.old { output = writer.new.output } }
+    ensures content { F.tells → HoldsFront admit.new writer.new }
 {
     look_beside(admit, writer);
+    admit.issued_law();
+    writer.written_law();
 }
 
 /// Makes the open file of its two sides, which looked at their line and did nothing since.
@@ -71,6 +74,17 @@ fn hold(answers: &mut Vec<Answer>, answer: Option<Answer>)
 {
     if let Some(answer) = answer {
         answers.push_reserved(answer);
+    }
+}
+
+impl<M: PendingMap> AdmitSide<M> {
+    /// What is kept under an admission lock: whatever bytes the file was opened with, the Puts sent and those ready are the pieces of
+    /// their fold with the writes that were accepted, in order. A law; the function does nothing.
+    pub fn issued_law(&self)
+        ensures mark { IsMarked self.now }
+        ensures sends { (base : List ℕ) → self.now.base ≡ length base → SendsFold self.now base }
+    {
+        self.admit.line_law();
     }
 }
 
