@@ -1,27 +1,23 @@
 -- Where both sides meet, the body is a front of the fold of what was accepted.
-use Rattle.std.proofs.Common.{◌≡◌, ℕ, ◌+◌, false, Option, Some, None, List, [], ◌∷◌, ◌++◌, map, length, take, drop, refl, sym, ◌∙◌, ap, subst, arith, append_assoc, append-nil, length-append}
+use Rattle.std.proofs.Common.{◌≡◌, ℕ, ◌+◌, Option, Some, None, List, [], ◌∷◌, ◌++◌, length, take, drop, refl, sym, ◌∙◌, ap, subst, append_assoc, append-nil, length-append}
 use Rattle.std.proofs.lemmas.List.{take-append-drop}
 use Rattle.std.proofs.lemmas.Grind.{flat_map-append}
 use mathlib.Core.List.{IsPrefix}
-use Rattle.gw_model.specs.File as model
-use Rattle.gw_model.specs.File.{Failure, File, Side, is_stale}
+use Rattle.gw_model.specs.File.{Failure, Side, is_stale}
 use Rattle.gw_model.specs.Order.{fold, joined_bytes, pieces}
-use Rattle.gw_model.specs.Sound.{pieces_of, plain_piece}
+use Rattle.gw_model.specs.Sound.{pieces_of}
 use Rattle.gw_model.proofs.Putting.{pieces_of-append}
 use Rattle.gw_model.proofs.Storing.{joined_plain}
 use Rattle.job_line.specs.Items.{base_of, puts_size}
-use Rattle.job_line.specs.Ends.{base_sent, base_taken, jobs_known, jobs_sent, jobs_taken, mark_sent}
+use Rattle.job_line.specs.Ends.{base_sent, base_taken, jobs_known, jobs_sent, jobs_taken}
 use Rattle.job_line.specs.Views.{jobs_of}
 use Rattle.job_line.specs.declared.items.Job.{Job}
 use Rattle.job_line.specs.declared.items.Job.TheVariants.{Put, Compare, Fetch, Settle}
-use Rattle.job_line.specs.declared.ends.LineIn.{LineIn}
-use Rattle.job_line.specs.declared.ends.LineOut.{LineOut}
 use Rattle.admit.specs.Line.{next_jobs, sent_jobs}
 use Rattle.writeback.specs.Steps.{put_data}
 use Rattle.file_cell.specs.Issued.{SendsFold}
 use Rattle.file_cell.specs.Sides.{HoldsFront}
 use Rattle.file_cell.specs.State.{AdmitSideState, IsMarked, WriterSideState}
-use Rattle.file_cell.specs.Steps.{IsLooked}
 use Rattle.file_cell.specs.Stored.{HaveAdded, IsWritten, puts_data}
 
 -- the bytes of the pieces of jobs are those of their Puts

@@ -12,3 +12,4 @@ pub mod Storing
 pub mod Rounds
 pub mod Issuing
 pub mod Fronts
+pub mod Runs

@@ -6,3 +6,4 @@ pub mod Sides
 pub mod Stored
 pub mod Rounds
 pub mod Issued
+pub mod Runs

@@ -1,5 +1,5 @@
 -- The two sides of an open file apart, each under a lock of its own.
-use Rattle.std.specs.Prelude.{◌≡◌, ℕ, false, List, [], length, Option, None}
+use Rattle.std.specs.Prelude.{◌≡◌, ℕ, false, List, [], length, None}
 use mathlib.Core.List.{IsPrefix}
 use Rattle.gw_model.specs.File.{File, is_stale}
 use Rattle.gw_model.specs.Order.{fold}

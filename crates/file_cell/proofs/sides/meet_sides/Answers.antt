@@ -1,4 +1,4 @@
-use Rattle.std.proofs.Common.{◌∙◌, ap}
+use Rattle.std.proofs.Common.{ap}
 use Rattle.job_line.specs.Items.{base_of}
 use Rattle.file_cell.specs.State.{AdmitSideState}
 use Rattle.file_cell.proofs.Fronts.{fronts}
