@@ -8,9 +8,9 @@ use Rattle.gw_model.specs.Ahead.{Outcomes, NoMemory, is_refused}
 use Rattle.gw_model.specs.Admission.{commit_step, pump_step_with, read_step, write_step}
 use Rattle.gw_model.specs.Ending.{give_up_step}
 use Rattle.gw_model.specs.File as model
-use Rattle.gw_model.specs.File.{File, Side, opened_file, side_of}
+use Rattle.gw_model.specs.File.{File, Side, is_stale, opened_file}
 use Rattle.gw_model.specs.Order.{ordered_writes, standing_writes, walk}
-use Rattle.gw_model.specs.Sides.{IsSideOf, side_commit_step, side_read_step, side_write_step}
+use Rattle.gw_model.specs.Sides.{IsSideOf, side_commit_step, side_give_up_step, side_pump_step, side_read_step, side_write_step}
 use Rattle.gw_model.specs.Sound.{IsIssued, SameWriter, pieces_of, plain_piece}
 use Rattle.gw_model.proofs.Givings.{open_stands}
 use Rattle.gw_model.proofs.Keeping.{commit_issues, give_up_issues, opened_issues, pump_issues, read_issues, write_issues}
@@ -19,7 +19,7 @@ use Rattle.job_line.specs.Items.{base_of, puts_size}
 use Rattle.job_line.specs.Ends.{SameContextIn, jobs_sent, mark_sent}
 use Rattle.job_line.specs.Views.{jobs_of}
 use Rattle.job_line.specs.declared.ends.LineIn.{LineIn}
-use Rattle.admit.specs.Calls.{Commits, Fetches, GivesUp, Pumps, TellsCommit, TellsRead, TellsWrite, Writes, commit_request, is_refusal, news_of, read_request, with_heard, write_request}
+use Rattle.admit.specs.Calls.{Commits, Fetches, GivesUp, Pumps, TellsCommit, TellsRead, TellsWrite, Writes, commit_request, is_refusal, left_state, news_of, pump_state, read_request, with_heard, write_request}
 use Rattle.admit.specs.Line.{GoesOn, sent_jobs}
 use Rattle.admit.specs.State.{AdmitState, opened_state}
 use Rattle.admit.specs.declared.request.CommitReq.{CommitReq}
@@ -29,8 +29,9 @@ use Rattle.admit.specs.declared.request.Verdict.{Verdict}
 use Rattle.admit.specs.declared.request.WriteReq.{WriteReq}
 use Rattle.admit.proofs.Lines.{model_jobs-append}
 use Rattle.file_cell.specs.Issued.{IssuesFold, SendsFold}
-use Rattle.file_cell.specs.State.{AdmitSideState}
+use Rattle.file_cell.specs.State.{AdmitSideState, KnowsFailure, failure_by}
 use Rattle.file_cell.proofs.Cells.{length-jobs, tells_on}
+use Rattle.file_cell.proofs.Hearing.{commit_cause, give_up_cause, other_knows, pump_cause, read_cause, write_cause}
 
 -- outcomes by which memory is refused, or isn't
 ahead_of : (b : Bool) → (t : Outcomes) × (is_refused t ≡ b)
@@ -48,14 +49,15 @@ sent_front i k n (same, (rest, is)) most =
     ∙ take-append-le n (jobs_of m (jobs_sent i)) (jobs_of (m + puts_size (jobs_sent i)) rest) (omega (arith, few, most))
 
 moves : (a : AdmitSideState) (b : AdmitState) (i : IssuesFold a) (g : File) → IsSideOf b.side g → IsIssued g → SameWriter i.file g → b.heard ≡ a.admit.heard → GoesOn a.admit.line b.line → a.admit.heard ≤ length (jobs_sent a.admit.line)
-    → IssuesFold (record a { admit = b })
-moves a b i g side issued same heard on most = record {
+    → KnowsFailure b.side (failure_by b.side.held.phase) → IssuesFold (record a { admit = b })
+moves a b i g side issued same heard on most knows = record {
   file = g;
   mark = on.0.2 ∙ i.mark;
   side = side;
   issued = issued;
   base = i.base ∙ sym (ap length same.base);
   done = ap (λ n. take n (sent_jobs b.line)) heard ∙ sent_front a.admit.line b.line a.admit.heard on most ∙ i.done ∙ sym same.done;
+  knows = knows;
 }
 
 -- requests
@@ -66,7 +68,7 @@ write_issuing a b v r i step stands most =
     let t = ahead_of (is_refusal v) in
     let after = stands i.file t.0 i.side t.1 in
     let on = tells_on v r.ticket a.admit b (side_write_step a.admit.limits a.admit.side q) step in
-    moves a b i (write_step a.admit.limits i.file q t.0).file after.stands (write_issues a.admit.limits i.file q t.0 i.issued) (write_same a.admit.limits i.file q t.0) on.0 on.1 most
+    moves a b i (write_step a.admit.limits i.file q t.0).file after.stands (write_issues a.admit.limits i.file q t.0 i.issued) (write_same a.admit.limits i.file q t.0) on.0 on.1 most (write_cause v r.ticket a.admit b q step i.knows)
 
 pub commit_issuing : (a : AdmitSideState) (b : AdmitState) (v : Verdict) (r : CommitReq) → IssuesFold a → TellsCommit v a.admit r b → Commits v a.admit r b → a.admit.heard ≤ length (jobs_sent a.admit.line) → IssuesFold (record a { admit = b })
 commit_issuing a b v r i step stands most =
@@ -74,7 +76,7 @@ commit_issuing a b v r i step stands most =
     let t = ahead_of (is_refusal v) in
     let after = stands i.file t.0 i.side t.1 in
     let on = tells_on v r.ticket a.admit b (side_commit_step a.admit.limits a.admit.side q) step in
-    moves a b i (commit_step a.admit.limits i.file q t.0).file after.stands (commit_issues a.admit.limits i.file q t.0 i.issued) (commit_same a.admit.limits i.file q t.0) on.0 on.1 most
+    moves a b i (commit_step a.admit.limits i.file q t.0).file after.stands (commit_issues a.admit.limits i.file q t.0 i.issued) (commit_same a.admit.limits i.file q t.0) on.0 on.1 most (commit_cause v r.ticket a.admit b q step i.knows)
 
 pub read_issuing : (a : AdmitSideState) (b : AdmitState) (v : Verdict) (r : ReadReq) → IssuesFold a → TellsRead v a.admit r b → Fetches v a.admit r b → a.admit.heard ≤ length (jobs_sent a.admit.line) → IssuesFold (record a { admit = b })
 read_issuing a b v r i step stands most =
@@ -82,19 +84,22 @@ read_issuing a b v r i step stands most =
     let t = ahead_of (is_refusal v) in
     let after = stands i.file t.0 i.side t.1 in
     let on = tells_on v r.ticket a.admit b (side_read_step a.admit.limits a.admit.side q) step in
-    moves a b i (read_step a.admit.limits i.file q t.0).file after.stands (read_issues a.admit.limits i.file q t.0 i.issued) (read_same a.admit.limits i.file q t.0) on.0 on.1 most
+    moves a b i (read_step a.admit.limits i.file q t.0).file after.stands (read_issues a.admit.limits i.file q t.0 i.issued) (read_same a.admit.limits i.file q t.0) on.0 on.1 most (read_cause v r.ticket a.admit b q step i.knows)
 
 -- pumps and ticks
 
-pub pump_issuing : (a : AdmitSideState) (b : AdmitState) (news : News) → IssuesFold a → Pumps a.admit news b → b.heard ≡ a.admit.heard → GoesOn a.admit.line b.line → a.admit.heard ≤ length (jobs_sent a.admit.line) → IssuesFold (record a { admit = b })
-pump_issuing a b news i stands heard on most =
+pub pump_issuing : (a : AdmitSideState) (b : AdmitState) (news : News) → IssuesFold a → Pumps a.admit news b → b ≡ pump_state (side_pump_step a.admit.limits (news_of news) a.admit.side) b.line a.admit → GoesOn a.admit.line b.line → a.admit.heard ≤ length (jobs_sent a.admit.line) → IssuesFold (record a { admit = b })
+pump_issuing a b news i stands step on most =
     let n = news_of news in
     let t = (ahead_of false).0 in
     let after = stands i.file t i.side in
-    moves a b i (pump_step_with a.admit.limits n i.file t).file after.0 (pump_issues a.admit.limits n i.file t i.issued) (pump_same a.admit.limits n i.file t) heard on most
+    moves a b i (pump_step_with a.admit.limits n i.file t).file after.0 (pump_issues a.admit.limits n i.file t i.issued) (pump_same a.admit.limits n i.file t) (ap (λ (x : AdmitState). x.heard) step) on most
+    (subst (λ (s : Side). KnowsFailure s (failure_by s.held.phase)) (sym (ap (λ (x : AdmitState). x.side) step)) (pump_cause a.admit.limits n a.admit.side i.knows))
 
-pub give_up_issuing : (a : AdmitSideState) (b : AdmitState) (moment : ℕ) → IssuesFold a → GivesUp a.admit moment b → b.heard ≡ a.admit.heard → b.line ≡ a.admit.line → IssuesFold (record a { admit = b })
-give_up_issuing a b moment i stands heard line =
+pub give_up_issuing : (a : AdmitSideState) (b : AdmitState) (moment : ℕ) → IssuesFold a → GivesUp a.admit moment b → b ≡ left_state (side_give_up_step moment a.admit.side) a.admit → IssuesFold (record a { admit = b })
+give_up_issuing a b moment i stands step =
+    let heard = ap (λ (x : AdmitState). x.heard) step in
+    let line = ap (λ (x : AdmitState). x.line) step in
     let t = (ahead_of false).0 in
     let g = (give_up_step moment i.file t).file in
     let same = give_up_same moment i.file t in
@@ -105,6 +110,7 @@ give_up_issuing a b moment i stands heard line =
       issued = give_up_issues moment i.file t i.issued;
       base = i.base ∙ sym (ap length same.base);
       done = ap (λ n. take n (sent_jobs b.line)) heard ∙ ap (λ l. take a.admit.heard (sent_jobs l)) line ∙ i.done ∙ sym same.done;
+      knows = subst (λ (s : Side). KnowsFailure s (failure_by s.held.phase)) (sym (ap (λ (x : AdmitState). x.side) step)) (give_up_cause moment a.admit.side i.knows);
     }
 
 -- Looks.
@@ -150,6 +156,8 @@ looks a b js n i is same sent line after =
       issued = record { order = ap pieces_of all ∙ i.issued.order; fresh = i.issued.fresh; none_left = i.issued.none_left };
       base = i.base;
       done = refl;
+      knows = subst (λ (s : Side). KnowsFailure s (failure_by s.held.phase)) (sym (ap (λ (x : AdmitState). x.side) is))
+          (other_knows a.admit.side (record a.admit.side { held = record a.admit.side.held { line = js } }) (failure_by a.admit.side.held.phase) refl refl refl i.knows);
     }
 
 -- Opening.
@@ -163,6 +171,7 @@ opened_issuing id n bytes b limits hull moment i long is mark = record {
   issued = opened_issues bytes hull moment;
   base = long;
   done = ap (λ (x : AdmitState). take x.heard (sent_jobs x.line)) is;
+  knows = λ stale. let live = ap (λ (x : AdmitState). is_stale x.side.held.phase) is in let e = sym stale ∙ live in absurd (cc e);
 }
 
 -- What it tells.

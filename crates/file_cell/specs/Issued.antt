@@ -5,7 +5,7 @@ use Rattle.gw_model.specs.Order.{pieces}
 use Rattle.gw_model.specs.Sides.{IsSideOf}
 use Rattle.gw_model.specs.Sound.{IsIssued, pieces_of, plain_piece}
 use Rattle.admit.specs.Line.{sent_jobs}
-use Rattle.file_cell.specs.State.{AdmitSideState, IsMarked}
+use Rattle.file_cell.specs.State.{AdmitSideState, IsMarked, KnowsFailure, failure_by}
 
 -- The mark of the line names the file. The side is that of a file of the definitions that was opened with so many bytes, whose Puts
 -- issued are the pieces of its fold, and whose jobs done are those of which the side heard that they were taken.
@@ -16,6 +16,8 @@ pub record IssuesFold (a : AdmitSideState) : Type 0 where
   pub issued : IsIssued file
   pub base : a.base ≡ length file.base
   pub done : take a.admit.heard (sent_jobs a.admit.line) ≡ file.done
+  -- where it is stale, it heard of the failure that it turned stale by
+  pub knows : KnowsFailure a.admit.side (failure_by a.admit.side.held.phase)
 
 -- Whatever bytes the file was opened with, of that length: the Puts sent, those ready, and those given up, are the pieces of the fold
 -- of these bytes with the writes that were accepted.

@@ -8,9 +8,10 @@ ghost use Rattle.job_line.specs.Ends.{SameContextIn, jobs_sent};
 ghost use Rattle.admit.specs.Calls.{Commits, Fetches, IsPumped, Pumps, TellsCommit, TellsRead, TellsWrite, Writes, news_of, pump_state, with_heard};
 ghost use Rattle.admit.specs.GivenUp.{Hands};
 ghost use Rattle.admit.specs.Line.{GoesOn};
+ghost use Rattle.file_cell.specs.State.{is_known_failure};
 ghost use Rattle.file_cell.specs.Steps.{is_quiet, ticked_admit, ticked_of};
 
-use admit::{Admit, CommitReq, News, Pumped, ReadReq, Verdict, WriteReq};
+use admit::{Admit, Cause, CommitReq, News, Phase, Pumped, ReadReq, Verdict, WriteReq};
 use gw_model::FileId;
 use range_map::PendingMap;
 use std::marker::Model;
@@ -157,6 +158,20 @@ impl<M: PendingMap> AdmitSide<M> {
         self.admit.line_law();
         self.admit.look();
         self.admit.line_law();
+    }
+
+    /// Whether the file takes writes, or turned stale by just this failure of its writer.
+    pub fn knows(&self, news: News) -> bool
+        ensures { result ≡ is_known_failure self.now.admit.side.held.phase (news_of news) }
+    {
+        match self.admit.phase() {
+            Phase::Live => true,
+            Phase::Stale(Cause::Append { stored, kept }) => match news.failed {
+                Some(failed) => *stored == failed.stored && *kept == failed.kept,
+                None => false,
+            },
+            Phase::Stale(Cause::Spill { .. }) => false,
+        }
     }
 
     /// How many marks its end of the line has sent.

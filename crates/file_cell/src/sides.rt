@@ -1,10 +1,11 @@
 // The two sides of an open file apart, so that each may lie under a lock of its own.
-ghost use Rattle.std.specs.Prelude.{◌≡◌, ℕ, ◌+◌, ◌<◌, ◌≤◌, List, [], length, vec_len};
+ghost use Rattle.std.specs.Prelude.{◌≡◌, ℕ, ◌+◌, ◌<◌, ◌≤◌, ◌&&◌, List, [], length, nat_eq, true, vec_len};
 ghost use Rattle.std.specs.Vec.{vec_capacity};
+ghost use Rattle.job_line.specs.Ends.{IsOneLine};
 ghost use Rattle.file_cell.specs.Issued.{SendsFold};
 ghost use Rattle.file_cell.specs.Rounds.{IsRound, with_answer};
 ghost use Rattle.file_cell.specs.Sides.{AreOneFile, HoldsFront};
-ghost use Rattle.file_cell.specs.State.{IsJoined, IsMarked, IsWithinTaken, cell_of};
+ghost use Rattle.file_cell.specs.State.{IsJoined, IsMarked, IsWithinTaken, KnowsFailure, cell_of, failure_by, is_known_failure};
 ghost use Rattle.file_cell.specs.Steps.{IsLooked, counted_admit};
 ghost use Rattle.file_cell.specs.Stored.{IsWritten};
 
@@ -26,6 +27,21 @@ impl<F: AppendFile, M: PendingMap> FileCell<F, M> {
         let FileCell { admit, writer } = self;
         (admit, writer)
     }
+}
+
+/// Whether both sides, with the ends of one line, are of one file: their ends stand at one mark, and the admission side is live or
+/// turned stale by just the failure of this writer.
+pub fn are_one_file<F: AppendFile, M: PendingMap>(
+    admit: &AdmitSide<M>,
+    writer: &WriterSide<F>,
+) -> bool
+    requires line { IsOneLine admit.now.admit.line writer.now.output }
+    ensures one { result ≡ true → AreOneFile admit.now writer.now }
+    ensures exact { let known = is_known_failure admit.now.admit.side.held.phase writer.now.writer.failed in
+        result ≡ (nat_eq admit.now.admit.line.begun writer.now.output.begun && known) }
+{
+    admit.failure_law();
+    admit.begun() == writer.begun() && admit.knows(writer.news())
 }
 
 /// Both sides look anew at their line. After it they may be joined, whatever each of them did by itself. Takes no memory.
@@ -85,6 +101,13 @@ impl<M: PendingMap> AdmitSide<M> {
         ensures sends { (base : List ℕ) → self.now.base ≡ length base → SendsFold self.now base }
     {
         self.admit.line_law();
+    }
+
+    // Where the side is stale, it heard of the failure that it turned stale by. A law; the function does nothing.
+    fn failure_law(&self)
+        ensures { KnowsFailure self.now.admit.side (failure_by self.now.admit.side.held.phase) }
+    {
+        let _ = &self.admit;
     }
 }
 
