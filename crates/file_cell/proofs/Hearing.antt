@@ -4,7 +4,7 @@ use Rattle.std.specs.Prelude.{if◌then◌else◌, min}
 use Rattle.gw_model.specs.declared.Hull.{Hull}
 use Rattle.gw_model.specs.declared.limits.Limits.{Limits}
 use Rattle.gw_model.specs.Ahead.{CallResult}
-use Rattle.gw_model.specs.File.{Append, Failure, Phase, Live, Spill, Stale, Side, Writer, is_stale, ready_weight}
+use Rattle.gw_model.specs.File.{Failure, Phase, Live, Stale, Side, Writer, is_stale, ready_weight}
 use Rattle.gw_model.specs.Admission.{WriteRequest, CommitRequest, ReadRequest, WriteJudgement, Barred, Busy, Compared, Again, Taken, Repeat, Differs, Unanswered, Answered, Takes, CommitJudgement, CommitBarred, CommitBusy, Waits, Settles, commit_judgement, joined_hull, repeat_of, side_with_accepted, with_ready_sent, with_use, write_judgement}
 use Rattle.gw_model.specs.Ending.{hull_of_entries}
 use Rattle.gw_model.specs.Sides.{SideStep, side_commit_step, side_commit_step_by, side_give_up_step, side_hearing_step, side_hearing_step_in, side_pump_step, side_read_step, side_read_step_if, side_repeat_step, side_stale_step, side_turn_step, side_write_step, side_write_step_by}
@@ -20,7 +20,7 @@ use Rattle.writeback.specs.declared.writer.Appended.TheVariants as appended
 use Rattle.writeback.specs.declared.owed.Synced.{Synced}
 use Rattle.writeback.specs.declared.owed.Synced.TheVariants.{Done, Failed}
 use Rattle.writeback.specs.Steps.{writer_after_sync}
-use Rattle.file_cell.specs.State.{HasHeardFailure, KnowsFailure, failure_by, is_known_failure}
+use Rattle.file_cell.specs.State.{HasHeardFailure, KnowsFailure, failure_by}
 use Rattle.file_cell.specs.declared.admit_side.Ticked.{Ticked}
 use Rattle.file_cell.specs.declared.admit_side.Ticked.TheVariants as ticked
 use Rattle.file_cell.specs.Steps.{ticked_admit}

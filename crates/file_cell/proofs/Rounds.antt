@@ -1,6 +1,8 @@
 -- Rounds of a writer side.
 use Rattle.std.proofs.Common.{◌≡◌, ℕ, ◌+◌, ◌≤◌, Option, List, ◌∷◌, refl, sym, ◌∙◌, ap, subst, arith}
 use Rattle.gw_model.specs.Views.{TraceState}
+use Rattle.job_line.specs.Ends.{SameContextOut}
+use Rattle.job_line.specs.declared.ends.LineOut.{LineOut}
 use Rattle.tickets.specs.declared.answer.Answer as spent
 use Rattle.file_cell.specs.State.{WriterSideState}
 use Rattle.file_cell.specs.Steps.{SideSteps}
@@ -21,6 +23,9 @@ one_more tells many answer old s t noted n k held h x before did is =
       notes = refl;
       answers = is ∙ ap (λ xs. with_answer xs answer) before.answers;
     }
+
+pub on_line : (o p q : LineOut) → SameContextOut o p → SameContextOut p q → SameContextOut o q
+on_line o p q a b = grind (arith, a, b)
 
 -- a turn makes at most one note
 pub room_left : (tells : Type 0) (answer : Option spent.Answer) (s t : WriterSideState) (n k : TraceState) → SideTurned tells answer s t n k → n.room ≤ k.room + 1

@@ -1,7 +1,7 @@
 // The two sides of an open file apart, so that each may lie under a lock of its own.
 ghost use Rattle.std.specs.Prelude.{◌≡◌, ℕ, ◌+◌, ◌<◌, ◌≤◌, ◌&&◌, List, [], length, nat_eq, true, vec_len};
 ghost use Rattle.std.specs.Vec.{vec_capacity};
-ghost use Rattle.job_line.specs.Ends.{IsOneLine};
+ghost use Rattle.job_line.specs.Ends.{IsOneLine, SameContextOut};
 ghost use Rattle.file_cell.specs.Issued.{SendsFold};
 ghost use Rattle.file_cell.specs.Rounds.{IsRound, with_answer};
 ghost use Rattle.file_cell.specs.Sides.{AreOneFile, HoldsFront};
@@ -120,6 +120,7 @@ impl<F: AppendFile> WriterSide<F> {
         requires noted { most ≤ trace.old.room }
         requires space { vec_len answers.old + most ≤ vec_capacity answers.old }
         ensures round { IsRound F.tells result most self.old self.new trace.old trace.new answers.old.items answers.new.items }
+        ensures line { SameContextOut self.old.output self.new.output }
         ensures none_left { self.new.left ≡ [] }
         ensures capacity { vec_capacity answers.new ≡ vec_capacity answers.old }
     {

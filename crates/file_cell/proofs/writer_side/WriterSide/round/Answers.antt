@@ -1,5 +1,5 @@
 use Rattle.std.proofs.Common.{arith, ◌∙◌}
-use Rattle.file_cell.proofs.Rounds.{ends_done, ends_empty, ends_full, one_more, room_left}
+use Rattle.file_cell.proofs.Rounds.{ends_done, ends_empty, ends_full, on_line, one_more, room_left}
 use Rattle.file_cell.proofs.writer_side.WriterSide.round.Goals as goal
 
 pub returns-in-SyncFirst-clause-round : goal.returns-in-SyncFirst-clause-round
@@ -22,6 +22,7 @@ loop-done-preserved g c =
       few = let a = c.loop-done-test.true in omega (arith, a);
       turned = one_more g.F.AppendFile.tells l.done c.in-Did.answer c.args.self.now l.self c.do_next.new.self c.args.trace.now l.trace c.do_next.new.trace c.args.answers.now.items l.answers.items c.hold.new.answers.items
           i.turned did c.hold.ensures.items;
+      line = on_line c.args.self.now.output l.self.output c.do_next.new.self.output i.line did.same;
       none_left = did.none_left;
       noted = let a = i.noted in omega (arith, room, a);
       space = let a = i.space in let b = c.hold.ensures.len in let e = c.hold.ensures.capacity in omega (arith, a, b, e);
