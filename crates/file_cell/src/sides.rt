@@ -23,6 +23,7 @@ impl<F: AppendFile, M: PendingMap> FileCell<F, M> {
         ensures joined { IsJoined result.0 result.1 }
         ensures one { AreOneFile result.0 result.1 }
         ensures same { cell_of result.0 result.1 ≡ self }
+        ensures none_left { self.left ≡ [] → (result.0.admit.left ≡ []) × (result.1.left ≡ []) }
     {
         let FileCell { admit, writer } = self;
         (admit, writer)
