@@ -20,7 +20,7 @@ use Rattle.writeback.specs.declared.writer.Appended.TheVariants as appended
 use Rattle.writeback.specs.declared.owed.Synced.{Synced}
 use Rattle.writeback.specs.declared.owed.Synced.TheVariants.{Done, Failed}
 use Rattle.writeback.specs.Steps.{writer_after_sync}
-use Rattle.file_cell.specs.State.{HasHeardFailure, KnowsFailure}
+use Rattle.file_cell.specs.State.{HasHeardFailure, KnowsFailure, failure_by}
 use Rattle.file_cell.specs.declared.admit_side.Ticked.{Ticked}
 use Rattle.file_cell.specs.declared.admit_side.Ticked.TheVariants as ticked
 use Rattle.file_cell.specs.Steps.{ticked_admit}
@@ -186,3 +186,60 @@ pub tick_knows : (how : Ticked) (moment : ℕ) (a : AdmitState) (failed : Option
 tick_knows ticked.Nothing moment a failed h = h
 tick_knows ticked.Close moment a failed h = h
 tick_knows ticked.GaveUp moment a failed h = given_up_knows moment a.side failed h
+
+-- What a stale side knows of the failure that it turned stale by.
+
+pub cause_after : (s told : Side) → told.held.phase ≡ s.held.phase → ((failed : Option Failure) → KnowsFailure s failed → KnowsFailure told failed) → KnowsFailure s (failure_by s.held.phase) → KnowsFailure told (failure_by told.held.phase)
+cause_after s told phase keeps h = subst (λ p. KnowsFailure told (failure_by p)) (sym phase) (keeps (failure_by s.held.phase) h)
+
+phase_after : (v : Verdict) (t : TicketId) (a b : AdmitState) (told : SideStep) → Tells v t a told b → told.side.held.phase ≡ a.side.held.phase → b.side.held.phase ≡ a.side.held.phase
+phase_after (Reply answer) t a b told x same = ap (λ (y : AdmitState). y.side.held.phase) x.2 ∙ same
+phase_after Held t a b told x same = ap (λ (y : AdmitState). y.side.held.phase) x.0 ∙ same
+phase_after (Dropped ticket) t a b told x same = ap (λ (y : AdmitState). y.side.held.phase) x.1 ∙ same
+phase_after (NoMemory ticket) t a b told x same = ap (λ (y : AdmitState). y.side.held.phase) x.1
+
+request_cause : (v : Verdict) (t : TicketId) (a b : AdmitState) (told : SideStep) → Tells v t a told b → told.side.held.phase ≡ a.side.held.phase
+    → ((failed : Option Failure) → KnowsFailure a.side failed → KnowsFailure told.side failed) → KnowsFailure a.side (failure_by a.side.held.phase) → KnowsFailure b.side (failure_by b.side.held.phase)
+request_cause v t a b told x phase keeps h = cause_after a.side b.side (phase_after v t a b told x phase) (λ failed. knows_after v t a b told failed x (keeps failed)) h
+
+write_phase_is : (limits : Limits) (s : Side) (q : WriteRequest) → (side_write_step limits s q).side.held.phase ≡ s.held.phase
+unfolding side_write_step
+write_phase_is limits s q = write_phase (write_judgement limits s q) limits s q
+
+pub write_cause : (v : Verdict) (t : TicketId) (a b : AdmitState) (q : WriteRequest) → Tells v t a (side_write_step a.limits a.side q) b → KnowsFailure a.side (failure_by a.side.held.phase) → KnowsFailure b.side (failure_by b.side.held.phase)
+write_cause v t a b q x h = request_cause v t a b (side_write_step a.limits a.side q) x (write_phase_is a.limits a.side q) (λ failed. write_knows a.limits a.side q failed) h
+
+commit_phase_is : (limits : Limits) (s : Side) (q : CommitRequest) → (side_commit_step limits s q).side.held.phase ≡ s.held.phase
+unfolding side_commit_step
+commit_phase_is limits s q = commit_phase (commit_judgement limits s q.limit) limits s q
+
+pub commit_cause : (v : Verdict) (t : TicketId) (a b : AdmitState) (q : CommitRequest) → Tells v t a (side_commit_step a.limits a.side q) b → KnowsFailure a.side (failure_by a.side.held.phase) → KnowsFailure b.side (failure_by b.side.held.phase)
+commit_cause v t a b q x h = request_cause v t a b (side_commit_step a.limits a.side q) x (commit_phase_is a.limits a.side q) (λ failed. commit_knows a.limits a.side q failed) h
+
+read_phase_if : (b : Bool) (limits : Limits) (s : Side) (q : ReadRequest) → (side_read_step_if b limits s q).side.held.phase ≡ s.held.phase
+unfolding with_use with_ready_sent
+read_phase_if true limits s q = refl
+read_phase_if false limits s q = refl
+
+read_phase_is : (limits : Limits) (s : Side) (q : ReadRequest) → (side_read_step limits s q).side.held.phase ≡ s.held.phase
+unfolding side_read_step
+read_phase_is limits s q = read_phase_if (nat_lt limits.ready_cap (ready_weight s.held.ready + base_weight)) limits s q
+
+pub read_cause : (v : Verdict) (t : TicketId) (a b : AdmitState) (q : ReadRequest) → Tells v t a (side_read_step a.limits a.side q) b → KnowsFailure a.side (failure_by a.side.held.phase) → KnowsFailure b.side (failure_by b.side.held.phase)
+read_cause v t a b q x h = request_cause v t a b (side_read_step a.limits a.side q) x (read_phase_is a.limits a.side q) (λ failed. read_knows a.limits a.side q failed) h
+
+hearing_cause : (news : Option Failure) (p : Phase) (s : Side) → KnowsFailure s (failure_by s.held.phase) → KnowsFailure (side_hearing_step_in news p s).side (failure_by (side_hearing_step_in news p s).side.held.phase)
+unfolding side_stale_step
+hearing_cause (Some e) Live s h = λ stale. record { failure = e; is = refl; none = refl; joined = joined_twice s.held.hull e.stored s.seen.top }
+hearing_cause (Some e) (Stale cause) s h = h
+hearing_cause None p s h = h
+
+pub pump_cause : (limits : Limits) (news : Option Failure) (s : Side) → KnowsFailure s (failure_by s.held.phase) → KnowsFailure (side_pump_step limits news s).side (failure_by (side_pump_step limits news s).side.held.phase)
+unfolding side_pump_step side_hearing_step with_ready_sent
+pump_cause limits news s h =
+    let told = (side_hearing_step_in news s.held.phase s).side in
+    other_knows told _ (failure_by told.held.phase) refl refl refl (hearing_cause news s.held.phase s h)
+
+pub give_up_cause : (moment : ℕ) (s : Side) → KnowsFailure s (failure_by s.held.phase) → KnowsFailure (side_give_up_step moment s).side (failure_by (side_give_up_step moment s).side.held.phase)
+unfolding side_give_up_step
+give_up_cause moment s h = given_up_knows moment s (failure_by s.held.phase) h

@@ -1,5 +1,5 @@
 pub mod State
-pub mod WriterSide
+pub mod WriterTurns
 pub mod Files
 pub mod Cells
 pub mod Syncs
@@ -8,3 +8,8 @@ pub mod Hearing
 pub mod Closings
 pub mod ClosedFiles
 pub mod Histories
+pub mod Storing
+pub mod Rounds
+pub mod Issuing
+pub mod Fronts
+pub mod Runs

@@ -1,8 +1,7 @@
 -- The parts of a cell: where the Puts taken end, and that no part has an answer where the whole has none.
 use Rattle.std.proofs.Common.{◌≡◌, ℕ, ◌+◌, ◌<◌, ◌≤◌, ◌^◌, Option, List, [], ◌∷◌, ◌++◌, refl, ◌∙◌, ap, arith}
-use Rattle.gw_model.specs.File.{Writer}
 use Rattle.job_line.specs.Items.{MayFollow, base_of, put_size, puts_size}
-use Rattle.job_line.specs.Ends.{SameContextOut, base_taken, jobs_taken, mark_taken}
+use Rattle.job_line.specs.Ends.{base_taken, jobs_taken, mark_taken}
 use Rattle.job_line.specs.declared.items.Job.{Job}
 use Rattle.job_line.specs.declared.items.Job.TheVariants.{Put, Compare, Fetch, Settle}
 use Rattle.job_line.specs.declared.ends.LineOut.{LineOut}
@@ -12,7 +11,7 @@ use Rattle.job_line.specs.Views.{data_size}
 use Rattle.gw_model.specs.Bounds.{max_transfer}
 use Rattle.tickets.specs.Answers.{answers_of}
 use Rattle.writeback.specs.State.{WriterSeen}
-use Rattle.file_cell.specs.State.{AdmitSideState, CellState, IsWithinTaken, WriterSideState, cell_of, taken_end, writer_side_of}
+use Rattle.file_cell.specs.State.{AdmitSideState, CellState, WriterSideState, cell_of, taken_end, writer_side_of}
 
 -- no answer is left
 
@@ -44,11 +43,6 @@ taken-snoc n taken j = let is = puts_size-snoc taken j in omega (arith, is)
 pub end_after : (o p : LineOut) (j : Job) → mark_taken p ≡ mark_taken o → jobs_taken p ≡ jobs_taken o ++ j ∷ [] → taken_end p ≡ taken_end o + put_size j
 end_after o p j mark taken =
     ap (λ m. base_of m + puts_size (jobs_taken p)) mark ∙ ap (λ js. base_taken o + puts_size js) taken ∙ taken-snoc (base_taken o) (jobs_taken o) j
-
-pub within_still : (w : Writer) (o p : LineOut) → SameContextOut o p → jobs_taken p ≡ jobs_taken o → IsWithinTaken w o → IsWithinTaken w p
-within_still w o p same taken is =
-    let end = end_still o p same.2 taken in
-    record { stored = omega (arith, end, is.stored); low = omega (arith, end, is.low) }
 
 -- a job that fits brings few bytes, and appends within a u64
 pub few_bytes : (base : ℕ) (js : List Job) (j : Job) → MayFollow base js j → data_size j ≤ max_transfer

@@ -22,6 +22,8 @@ use Rattle.file_cell.proofs.Hearing.{sync_knows}
 use Rattle.file_cell.specs.State.{AdmitSideState, CellState, IsJoined, IsWithinTaken, WriterSideState, cell_of, writer_side_of}
 use Rattle.file_cell.specs.Steps.{CoversDurable, synced_cell, synced_side}
 use Rattle.file_cell.specs.Files.{SyncsFor}
+use Rattle.file_cell.specs.Stored.{IsWritten}
+use Rattle.file_cell.proofs.Storing.{still_written}
 use Rattle.file_cell.proofs.State.{admit_none, second_none, first_none}
 
 -- hsync, as a step of the definition's writer
@@ -57,6 +59,18 @@ pub sync_within : (how : Synced) (w v : WriterSeen) (o : LineOut) → ((t : Outc
 sync_within how w v o later is =
     let stored : v.writer.stored ≡ w.writer.stored = ap (λ (x : Writer). x.stored) ((later none_ahead).writer ∙ ap (λ (x : WriterStep). x.writer) (step_is how w.writer none_ahead)) ∙ stored_is how w.writer in
     record { stored = omega (arith, stored, is.stored); low = is.low }
+
+failed_is : (how : Synced) (w : Writer) → (writer_after_sync how w).failed ≡ w.failed
+failed_is Done w = refl
+failed_is Failed w = refl
+
+-- what is stored stays so
+pub sync_written : (tells : Type 0) (how : Synced) (w v : WriterSeen) (o : LineOut) → ((t : Outcomes) → AnswersLater (writer_sync_step w.writer (with_calls_ahead (sync_call how ∷ []) t)) w v t)
+    → Leaves tells [] (sync_call how ∷ []) w.file v.file → IsWritten tells w.writer w.file.content o → IsWritten tells v.writer v.file.content o
+sync_written tells how w v o later leaves is =
+    let after : v.writer ≡ record (writer_after_sync how w.writer) { owed = [] } = (later none_ahead).writer ∙ ap (λ (x : WriterStep). x.writer) (step_is how w.writer none_ahead) in
+    still_written tells o o w.writer v.writer w.file.content v.file.content refl refl (ap (λ (x : Writer). x.failed) after ∙ failed_is how w.writer) (ap (λ (x : Writer). x.stored) after ∙ stored_is how w.writer)
+    (λ told. leaves.content told ∙ append-nil w.file.content) is
 
 -- The cell.
 

@@ -8,9 +8,10 @@ ghost use Rattle.job_line.specs.Ends.{SameContextIn, jobs_sent};
 ghost use Rattle.admit.specs.Calls.{Commits, Fetches, IsPumped, Pumps, TellsCommit, TellsRead, TellsWrite, Writes, news_of, pump_state, with_heard};
 ghost use Rattle.admit.specs.GivenUp.{Hands};
 ghost use Rattle.admit.specs.Line.{GoesOn};
+ghost use Rattle.file_cell.specs.State.{is_known_failure};
 ghost use Rattle.file_cell.specs.Steps.{is_quiet, ticked_admit, ticked_of};
 
-use admit::{Admit, CommitReq, News, Pumped, ReadReq, Verdict, WriteReq};
+use admit::{Admit, Cause, CommitReq, News, Phase, Pumped, ReadReq, Verdict, WriteReq};
 use gw_model::FileId;
 use range_map::PendingMap;
 use std::marker::Model;
@@ -29,7 +30,7 @@ pub enum Ticked {
 
 /// The admission side of an open file, with the end of its line that sends: what may lie under a lock of its own.
 #[derive(Drop)]
-pub(crate) struct AdmitSide<M: PendingMap> {
+pub struct AdmitSide<M: PendingMap> {
     pub(crate) id: FileId,
     // How many bytes the file had when it was opened.
     pub(crate) base: u64,
@@ -37,42 +38,46 @@ pub(crate) struct AdmitSide<M: PendingMap> {
 }
 
 impl<M: PendingMap> Model for AdmitSide<M> {
-    ghost use Rattle.file_cell.specs.State.{AdmitSideState, IsMarked};
+    ghost use Rattle.file_cell.specs.State.{AdmitSideState};
+    ghost use Rattle.file_cell.specs.Issued.{IssuesFold};
 
     ghost Value = { AdmitSideState };
 
     ghost view = { λ a. record { id = a.id; base = a.base; admit = a.admit } };
 
-    ghost invariant = { λ a. IsMarked (record { id = a.id; base = a.base; admit = a.admit }) };
+    ghost invariant = { λ a. IssuesFold (record { id = a.id; base = a.base; admit = a.admit }) };
 }
 
 impl<M: PendingMap> AdmitSide<M> {
     /// Takes a WRITE in. Takes memory.
-    pub(crate) fn write(&mut self, request: WriteReq) -> Verdict
+    pub fn write(&mut self, request: WriteReq) -> Verdict
         requires fits { request.offset + length request.bytes < end_limit }
         requires count { length request.bytes ≤ max_transfer }
         ensures step { TellsWrite result self.old.admit request self.new.admit }
         ensures stands { Writes result self.old.admit request self.new.admit }
         ensures rest { self.new ≡ record self.old { admit = self.new.admit } }
     {
+        self.admit.line_law();
         self.admit.receive(request)
     }
 
     /// Takes a COMMIT in. Takes memory.
-    pub(crate) fn commit(&mut self, request: CommitReq) -> Verdict
+    pub fn commit(&mut self, request: CommitReq) -> Verdict
         ensures step { TellsCommit result self.old.admit request self.new.admit }
         ensures stands { Commits result self.old.admit request self.new.admit }
         ensures rest { self.new ≡ record self.old { admit = self.new.admit } }
     {
+        self.admit.line_law();
         self.admit.commit(request)
     }
 
     /// Takes a READ in. Takes memory.
-    pub(crate) fn read(&mut self, request: ReadReq) -> Verdict
+    pub fn read(&mut self, request: ReadReq) -> Verdict
         ensures step { TellsRead result self.old.admit request self.new.admit }
         ensures stands { Fetches result self.old.admit request self.new.admit }
         ensures rest { self.new ≡ record self.old { admit = self.new.admit } }
     {
+        self.admit.line_law();
         self.admit.fetch(request)
     }
 
@@ -115,7 +120,7 @@ impl<M: PendingMap> AdmitSide<M> {
 
     /// Judges the file at a moment, and gives up its pending writes and waiting COMMITs where it wasn't used for so long.
     /// Takes no memory.
-    pub(crate) fn tick(&mut self, moment: u64, owes: bool) -> Ticked
+    pub fn tick(&mut self, moment: u64, owes: bool) -> Ticked
         requires none_left { self.old.admit.left ≡ [] }
         ensures judged { result ≡ ticked_of (tick_judgement self.old.admit.limits self.old.admit.side owes moment) }
         ensures step { self.new.admit ≡ ticked_admit result moment self.old.admit }
@@ -129,7 +134,7 @@ impl<M: PendingMap> AdmitSide<M> {
     }
 
     /// Hears of the writer, and sends what is ready. Takes no memory.
-    pub(crate) fn pump_step(&mut self, news: News) -> Pumped
+    pub fn pump_step(&mut self, news: News) -> Pumped
         requires none_left { self.old.admit.left ≡ [] }
         ensures step { let told = side_pump_step self.old.admit.limits (news_of news) self.old.admit.side in
             self.new.admit ≡ pump_state told self.new.admit.line self.old.admit }
@@ -138,43 +143,60 @@ impl<M: PendingMap> AdmitSide<M> {
         ensures pumped { IsPumped result self.old.admit self.new.admit }
         ensures rest { self.new ≡ record self.old { admit = self.new.admit } }
     {
+        self.admit.line_law();
         self.admit.pump(news)
     }
 
     /// Looks anew for free slots, by this end of the line alone. After it fewer jobs may be held as sent. Takes no memory.
-    pub(crate) fn look(&mut self)
+    pub fn look(&mut self)
         ensures same { SameContextIn self.old.admit.line self.new.admit.line }
         ensures sent { jobs_sent self.new.admit.line ≡ jobs_sent self.old.admit.line }
         ensures heard { self.old.admit.heard ≤ self.new.admit.heard }
         ensures step { let new = self.new.admit in new ≡ with_heard new.side.held.line new.line new.heard self.old.admit }
         ensures rest { self.new ≡ record self.old { admit = self.new.admit } }
     {
+        self.admit.line_law();
         self.admit.look();
+        self.admit.line_law();
+    }
+
+    /// Whether the file takes writes, or turned stale by just this failure of its writer.
+    pub fn knows(&self, news: News) -> bool
+        ensures { result ≡ is_known_failure self.now.admit.side.held.phase (news_of news) }
+    {
+        match self.admit.phase() {
+            Phase::Live => true,
+            Phase::Stale(Cause::Append { stored, kept }) => match news.failed {
+                Some(failed) => *stored == failed.stored && *kept == failed.kept,
+                None => false,
+            },
+            Phase::Stale(Cause::Spill { .. }) => false,
+        }
     }
 
     /// How many marks its end of the line has sent.
-    pub(crate) fn begun(&self) -> u64
+    pub fn begun(&self) -> u64
         ensures { result ≡ self.now.admit.line.begun }
     {
         self.admit.begun()
     }
 
     /// The moment of the last use of the file, or when it was opened.
-    pub(crate) fn used(&self) -> u64
+    pub fn used(&self) -> u64
         ensures { result ≡ self.now.admit.side.held.used }
     {
         self.admit.used()
     }
 
     /// Whether the file takes no writes any more.
-    pub(crate) fn is_stale(&self) -> bool
+    pub fn is_stale(&self) -> bool
         ensures { result ≡ is_stale self.now.admit.side.held.phase }
     {
         self.admit.is_stale()
     }
 
     /// The next answer that a call left. Takes no memory.
-    pub(crate) fn next_answer(&mut self) -> Option<Answer>
+    pub fn next_answer(&mut self) -> Option<Answer>
         ensures hands { Hands result self.old.admit.left self.new.admit.left }
         ensures rest { self.new ≡ record self.old { admit = record self.old.admit { left = self.new.admit.left } } }
     {
@@ -182,14 +204,14 @@ impl<M: PendingMap> AdmitSide<M> {
     }
 
     /// The length up to which the accepted writes have left no hole.
-    pub(crate) fn reach(&self) -> u64
+    pub fn reach(&self) -> u64
         ensures { result ≡ self.now.admit.side.seen.reach }
     {
         self.admit.reach()
     }
 
     /// The moment of the last accepted write.
-    pub(crate) fn changed(&self) -> Option<u64>
+    pub fn changed(&self) -> Option<u64>
         ensures { result ≡ self.now.admit.side.held.changed }
     {
         self.admit.changed()
@@ -197,14 +219,14 @@ impl<M: PendingMap> AdmitSide<M> {
 
     /// Whether no job is held as sent.
     #[tactic(auto, using(crate::proofs::Cells::empty_is))]
-    pub(crate) fn is_line_empty(&self) -> bool
+    pub fn is_line_empty(&self) -> bool
         ensures { result ≡ is_empty self.now.admit.side.held.line }
     {
         self.admit.in_line() == 0
     }
 
     /// Whether nothing is pending, ready, waiting or held as sent.
-    pub(crate) fn is_quiet(&self) -> bool
+    pub fn is_quiet(&self) -> bool
         ensures { result ≡ is_quiet self.now.admit.side }
     {
         self.admit.is_empty() && self.is_line_empty()

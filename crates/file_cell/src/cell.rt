@@ -31,8 +31,8 @@ use writeback::{Synced, Writer};
 /// The context of one open file: its admission side and its writer side, each with its end of the line between them.
 #[derive(Drop)]
 pub struct FileCell<F: AppendFile, M: PendingMap> {
-    admit: AdmitSide<M>,
-    writer: WriterSide<F>,
+    pub(crate) admit: AdmitSide<M>,
+    pub(crate) writer: WriterSide<F>,
 }
 
 impl<F: AppendFile, M: PendingMap> Model for FileCell<F, M> {
@@ -46,7 +46,10 @@ impl<F: AppendFile, M: PendingMap> Model for FileCell<F, M> {
 }
 
 // Both ends of the line look anew. After it the admission side holds as sent just what is to be taken.
-fn look_beside<F: AppendFile, M: PendingMap>(admit: &mut AdmitSide<M>, writer: &mut WriterSide<F>)
+pub(crate) fn look_beside<F: AppendFile, M: PendingMap>(
+    admit: &mut AdmitSide<M>,
+    writer: &mut WriterSide<F>,
+)
     requires { IsOneContext admit.old.admit.line writer.old.output }
     ensures looked { IsLooked admit.old.admit.line writer.old.output admit.new.admit.line writer.new.output }
     ensures admit { admit.new ≡ record admit.old { admit = counted_admit admit.new.admit.line writer.new.output admit.old.admit } }
@@ -55,6 +58,7 @@ fn look_beside<F: AppendFile, M: PendingMap>(admit: &mut AdmitSide<M>, writer: &
 {
     admit.admit.line_law();
     admit.admit.beside(&mut writer.output);
+    admit.admit.line_law();
 }
 
 impl<F: AppendFile, M: PendingMap> FileCell<F, M> {

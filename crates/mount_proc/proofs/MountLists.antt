@@ -1,10 +1,15 @@
 -- A mount list stays one: what a pair that is added or taken out makes of it.
-use Rattle.std.proofs.Common.{◌≡◌, ℕ, ◌≤◌, ◌<◌, Bool, true, false, cond, ◌&&◌, ◌||◌, Result, Ok, Err, OnOk, OnErr}
+use Rattle.std.proofs.Common.{◌≡◌, ℕ, ◌≤◌, ◌<◌, Bool, true, false, cond, not, ◌&&◌, ◌||◌, if◌then◌else◌, nat_le, Result, Ok, Err, OnOk, OnErr}
 use Rattle.std.proofs.Common.{List, [], ◌∷◌, ◌++◌, length, filter, refl, sym, subst, arith, length-append, true≢false}
+use Rattle.std.proofs.lemmas.Bool.{leb-false}
 use Rattle.std.proofs.lemmas.Cmp.{nat_list_eq_equiv}
 use Rattle.std.proofs.lemmas.List.Folds.{list_any-append}
+use Rattle.gw_model.specs.declared.FileId.{FileId}
+use Rattle.gw_model.specs.Statuses as status
 use Rattle.nfs_wire.specs.Results.{MountText}
-use Rattle.mount_proc.specs.Mounts.{IsMountList, has_pair_twice, is_mount_of, is_mounted, most_mounts}
+use Rattle.name_tree.specs.Tree.{Tree}
+use Rattle.mount_proc.specs.ExportPaths.{directory_of_path, onward_from}
+use Rattle.mount_proc.specs.Mounts.{IsMountList, has_pair_twice, is_mount_of, is_mounted, mnt_judgement, most_mounts}
 
 pub same_pair_swap : (m n : MountText) → is_mount_of m.host m.path n ≡ is_mount_of n.host n.path m
 same_pair_swap m n = λ i. nat_list_eq_equiv.symm n.host m.host i && nat_list_eq_equiv.symm n.path m.path i
@@ -74,3 +79,17 @@ pub tried_is_list : {T E : Type 0} (tried : Result T E) (host path : List ℕ) (
     → is_mounted host path old ≡ false → length old < most_mounts → IsMountList old → IsMountList new
 tried_is_list (Ok x) host path old new ok err unlisted room is = subst IsMountList (sym ok) (longer_is_list host path old unlisted room is)
 tried_is_list (Err e) host path old new ok err unlisted room is = subst IsMountList (sym err) is
+
+-- a new pair that isn't refused has a place
+pub judged_has_place : (t : Tree) (export host path : List ℕ) (ms : List MountText) (dir : FileId)
+    → mnt_judgement t export ms host path ≡ Ok dir → is_mounted host path ms ≡ false → length ms < most_mounts
+unfolding mnt_judgement
+judged_has_place t export host path ms dir judged unlisted =
+    by (directory_of_path t export path) (is_mounted host path ms) unlisted (nat_le most_mounts (length ms)) refl judged
+  where
+    by : (found : Result FileId ℕ) (listed : Bool) → listed ≡ false → (full : Bool) → nat_le most_mounts (length ms) ≡ full
+        → onward_from found (λ d. if not listed && full then Err status.serverfault else Ok d) ≡ Ok dir → length ms < most_mounts
+    by (Err s) listed unlisted full same judged = absurd (cc)
+    by (Ok d) true unlisted full same judged = absurd (true≢false unlisted)
+    by (Ok d) false unlisted true same judged = absurd (cc)
+    by (Ok d) false unlisted false same judged = leb-false most_mounts (length ms) same

@@ -4,7 +4,7 @@ ghost use Rattle.xdr.specs.Rows.{text};
 ghost use Rattle.nfs_wire.specs.Results.{Dump, results_row};
 ghost use Rattle.nfs_wire.specs.Short.{CanBeSpelled};
 ghost use Rattle.nfs_wire.specs.Views.{mount_view};
-ghost use Rattle.mount_proc.specs.Mounts.{IsMntAnswer, IsMountList, is_mounted, mnt_judgement};
+ghost use Rattle.mount_proc.specs.Mounts.{IsMntAnswer, IsMountList, has_no_place, is_mounted, mnt_judgement};
 ghost use Rattle.mount_proc.specs.Mounts.{mounts_with, mounts_without, mounts_without_host};
 
 use crate::MountRefusal;
@@ -44,6 +44,34 @@ fn is_mounted(mounts: &[Mount], host: &[u8], path: &[u8]) -> bool
     ensures { result ≡ is_mounted host.now path.now mounts.now }
 {
     mounts.iter().any(|mount| mount.is_of(host, path))
+}
+
+fn has_no_place(mounts: &[Mount], host: &[u8], path: &[u8]) -> bool
+    ensures { result ≡ has_no_place host.now path.now mounts.now }
+{
+    !is_mounted(mounts, host, path) && mounts.len() >= MOST_MOUNTS
+}
+
+#[tactic(auto, unfolding(crate::specs::Mounts::mnt_judgement))]
+fn mnt_judgement(
+    tree: &Tree,
+    export: &[u8],
+    mounts: &[Mount],
+    host: &[u8],
+    path: &[u8],
+) -> Result<FileId, u32>
+    ensures { result ≡ mnt_judgement tree.now.tree export.now mounts.now host.now path.now }
+{
+    match directory_of_path(tree, export, path) {
+        Ok(dir) => {
+            if has_no_place(mounts, host, path) {
+                Err(NFS3ERR_SERVERFAULT)
+            } else {
+                Ok(dir)
+            }
+        }
+        Err(status) => Err(status),
+    }
 }
 
 fn list_mount(
@@ -99,11 +127,17 @@ impl MountList {
         self.mounts.len()
     }
 
+    /// What `mnt` answers where memory isn't refused. Takes no memory, and changes nothing.
+    pub fn judge(&self, tree: &Tree, export: &[u8], host: &[u8], path: &[u8]) -> Result<FileId, u32>
+        ensures { result ≡ mnt_judgement tree.now.tree export.now self.now host.now path.now }
+    {
+        mnt_judgement(tree, export, &self.mounts, host, path)
+    }
+
     /// MNT (RFC 1813 section 5.2.1): the directory of the tree that a path names, which is then listed for the host, where the
     /// pair isn't yet. The path is refused with `NFS3ERR_ACCES` where it neither is the export path nor lies behind it, and each
     /// further name with `NFS3ERR_NAMETOOLONG` past 255 bytes, `NFS3ERR_NOENT` and `NFS3ERR_NOTDIR`; a new pair past the last
     /// place with `NFS3ERR_SERVERFAULT`. Takes memory where the pair is new. Nothing changes where it is refused.
-    #[tactic(auto, unfolding(crate::specs::Mounts::mnt_judgement))]
     pub fn mnt(
         &mut self,
         tree: &Tree,
@@ -115,15 +149,12 @@ impl MountList {
         ensures ok { OnOk result (self.new ≡ mounts_with host.now path.now self.old) }
         ensures err { OnErr result (self.new ≡ self.old) }
     {
-        let dir = match directory_of_path(tree, export, path) {
+        let dir = match mnt_judgement(tree, export, &self.mounts, host, path) {
             Ok(dir) => dir,
             Err(status) => return Err(MountRefusal::Status(status)),
         };
         if is_mounted(&self.mounts, host, path) {
             return Ok(dir);
-        }
-        if self.mounts.len() >= MOST_MOUNTS {
-            return Err(MountRefusal::Status(NFS3ERR_SERVERFAULT));
         }
         match list_mount(self.alloc, &mut self.mounts, host, path) {
             Ok(()) => Ok(dir),

@@ -1,4 +1,4 @@
-// The replies of the procedures that change nothing.
+// The replies of the procedures that change no names.
 ghost use Rattle.std.specs.Prelude.{◌≡◌, ◌≤◌, ◌++◌, Some, IfOk};
 ghost use Rattle.std.specs.Option.{option_map};
 ghost use Rattle.xdr.specs.Rows.{text};
@@ -7,10 +7,11 @@ ghost use Rattle.rpc_msg.specs.Replies.{accepted_text};
 ghost use Rattle.nfs_wire.specs.Results.{results_row};
 ghost use Rattle.nfs_wire.specs.Views.{results_of};
 ghost use Rattle.name_queries.specs.Outcomes.{results_text};
-ghost use Rattle.name_calls.specs.FrontAnswers.{front_results};
+ghost use Rattle.name_calls.specs.FrontAnswers.{front_results, mnt_of, mnt_results};
 
 use crate::Front;
 use gw_model::NoMemory;
+use handles::handle_of;
 use mount_proc::export_text;
 use nfs_wire::{Args, Res, res_text};
 use rpc_msg::numbers::SUCCESS;
@@ -26,7 +27,22 @@ fn some_text(alloc: Global, results: &Res<'_>) -> Result<Option<Vec<u8>>, NoMemo
     }
 }
 
-/// The results of a procedure that changes nothing; `None` for another. Takes memory.
+// MNT (RFC 1813 section 5.2.1): the handle of the directory that a path names, or its refusal.
+fn mnt_results(front: &Front, call: &Call, path: &[u8]) -> Res<'static>
+    ensures { results_of result ≡ mnt_results front.now.names.fsid (mnt_of front.now call.now path.now) }
+{
+    match front
+        .mounts
+        .judge(&front.names.tree, &front.export, &call.host, path)
+    {
+        Ok(dir) => Res::Mnt {
+            handle: handle_of(dir, front.names.fsid),
+        },
+        Err(status) => Res::Refused { status, zeros: 0 },
+    }
+}
+
+/// The results of a procedure that changes no names; `None` for another. Takes memory.
 #[tactic(auto, unfolding(crate::specs::FrontAnswers::front_results))]
 pub fn told_text(
     alloc: Global,
@@ -44,6 +60,9 @@ pub fn told_text(
             Ok(text) => Ok(Some(text)),
             Err(_) => Err(NoMemory),
         },
+        Args::Mnt { path } => some_text(alloc, &mnt_results(front, call, path)),
+        Args::Umnt { .. } => some_text(alloc, &Res::Umnt),
+        Args::Umntall => some_text(alloc, &Res::Umntall),
         Args::Export => match export_text(alloc, &front.export) {
             Ok(text) => Ok(Some(text)),
             Err(_) => Err(NoMemory),

@@ -1,4 +1,12 @@
+pub mod BytesStay
+pub mod SameBytes
+pub mod EntryWeights
+pub mod Freed
+pub mod GivenTickets
+pub mod KeptBytes
 pub mod LastEntries
 pub mod LiveExtents
 pub mod SoundEntries
 pub mod SpillMoves
+pub mod Reading
+pub mod StayTaken

@@ -47,7 +47,7 @@ sound-put_in e es s here sound h = record {
   live = subst (λ (xs : List Span). are_live xs (extents_of s.kept) ≡ true) (sym (held-put_in e es here)) h.live;
 }
 
-behind_live : (p : Place) (es live : List Span) → are_live (place_extents p ++ es) live ≡ true → are_live es live ≡ true
+pub behind_live : (p : Place) (es live : List Span) → are_live (place_extents p ++ es) live ≡ true → are_live es live ≡ true
 behind_live (Memory bytes) es live all = all
 behind_live (Spilled extent) es live all = all-beside extent es live (and_true (is_live extent live) _ all).1
 

@@ -28,7 +28,7 @@ use Rattle.pending_writes.proofs.SoundEntries.{memory_holds_none}
 
 -- the last entry in memory
 
-on_device : (p : Place) (x : Span) → p ≡ Spilled x → lies_in_memory p ≡ true → ⊥
+pub on_device : (p : Place) (x : Span) → p ≡ Spilled x → lies_in_memory p ≡ true → ⊥
 on_device p x is here = let no : false ≡ true = sym (ap lies_in_memory is) ∙ here in absurd (cc)
 
 pub last_is_here : (es : List Entry) (e : Entry) → last_of_memory es ≡ Some e → is_in_memory e ≡ true
@@ -104,13 +104,13 @@ put_failed tells fail.Fault e es n old new found size room full no_room memory f
     subst (λ (o : Option Entry). IsSomeAnd o (λ x. FitsBehindLast (pending_state es old) x × IsNotMoved tells x (pending_state es old) (pending_state es new))) (sym found) (has, left)
 
 -- a put that was done
-pub put_done : (tells : Type 0) (e : Entry) (es es' : List Entry) (number start n : ℕ) (x : Span) (bytes : List ℕ) (old new : SpillState) → last_of_memory es ≡ Some e
-    → n ≡ e.count → e.place ≡ Memory bytes → number ≡ e.number → start ≡ x.start → (old.size < old.next + n → ⊥)
+pub put_done : (tells : Type 0) (e : Entry) (es es' : List Entry) (number weight start n : ℕ) (x : Span) (bytes : List ℕ) (old new : SpillState) → last_of_memory es ≡ Some e
+    → n ≡ e.count → e.place ≡ Memory bytes → number ≡ e.number → weight ≡ e.weight → start ≡ x.start → (old.size < old.next + n → ⊥)
     → x ≡ next_span (region_of old) n → All (λ k. k.extent.start ≢ x.start) old.kept → region_of new ≡ with_placed (region_of old) n
     → (tells → new.kept ≡ old.kept ++ record { extent = x; bytes = bytes } ∷ []) → old.faults ≤ new.faults → new.tally ≡ one_call false old.tally
     → es' ≡ with_place_at e.offset e.number (Spilled x) es
-    → MovesLast tells (move.Moved number start) (pending_state es old) (pending_state es' new)
-put_done tells e es es' number start n x bytes old new found size place is_number is_start fits placed fresh region kept faults tally goes =
+    → MovesLast tells (move.Moved number weight start) (pending_state es old) (pending_state es' new)
+put_done tells e es es' number weight start n x bytes old new found size place is_number is_weight is_start fits placed fresh region kept faults tally goes =
     let has : old.next + e.count ≤ old.size = omega (arith, fits, size) in
     let there : x ≡ next_span (region_of old) e.count = placed ∙ ap (next_span (region_of old)) size in
     let at : x.start ≡ old.next = ap (λ (y : Span). y.start) there in
@@ -124,12 +124,12 @@ put_done tells e es es' number start n x bytes old new found size place is_numbe
       faults = faults;
       tally = tally;
     } in
-    subst (λ (o : Option Entry). IsSomeAnd o (λ y. FitsBehindLast (pending_state es old) y × (number ≡ y.number) × (start ≡ old.next) × IsMoved tells y (pending_state es old) (pending_state es' new)))
-    (sym found) (has, is_number, is_start ∙ at, moved)
+    subst (λ (o : Option Entry). IsSomeAnd o (λ y. FitsBehindLast (pending_state es old) y × (number ≡ y.number) × (weight ≡ y.weight) × (start ≡ old.next) × IsMoved tells y (pending_state es old) (pending_state es' new)))
+    (sym found) (has, is_number, is_weight, is_start ∙ at, moved)
 
 -- The entries stay sound.
 
-held-append : (xs ys : List Entry) → held_extents (xs ++ ys) ≡ held_extents xs ++ held_extents ys
+pub held-append : (xs ys : List Entry) → held_extents (xs ++ ys) ≡ held_extents xs ++ held_extents ys
 held-append [] ys = refl
 held-append (x ∷ xs) ys = ap (λ (zs : List Span). place_extents x.place ++ zs) (held-append xs ys) ∙ sym (append_assoc (place_extents x.place) (held_extents xs) (held_extents ys))
 
@@ -183,10 +183,10 @@ sound-moved tells move.Fault old new ordered sound h =
       }
     ] in
     go (last_of_memory old.entries) h
-sound-moved tells (move.Moved number start) old new ordered sound h =
+sound-moved tells (move.Moved number weight start) old new ordered sound h =
     let go : (o : Option Entry) → last_of_memory old.entries ≡ o
-    → IsSomeAnd o (λ e. FitsBehindLast old e × (number ≡ e.number) × (start ≡ old.spill.next) × IsMoved tells e old new) → AreSoundEntries new = elim [
+    → IsSomeAnd o (λ e. FitsBehindLast old e × (number ≡ e.number) × (weight ≡ e.weight) × (start ≡ old.spill.next) × IsMoved tells e old new) → AreSoundEntries new = elim [
       | None ↦ λ is h. absurd h
-      | Some e ↦ λ is h. sound-moved_one tells e old new is ordered sound h.3
+      | Some e ↦ λ is h. sound-moved_one tells e old new is ordered sound h.4
     ] in
     go (last_of_memory old.entries) refl h

@@ -1,5 +1,6 @@
 -- The extents that pending writes hold, and the bytes of each write wherever they are.
 use Rattle.std.specs.Prelude.{ℕ, zero, suc, ◌&&◌, ◌||◌, Bool, true, false, List, [], ◌∷◌, ◌++◌, length}
+use Rattle.std.specs.List.{list_all}
 use Rattle.spill_region.specs.Extents.{Span, is_same, without}
 use Rattle.spill.specs.Kept.{KeptExtent, bytes_at}
 use Rattle.range_map.specs.declared.entry.Entry.{Entry}
@@ -44,3 +45,12 @@ is_live e (x ∷ xs) = is_same x e || is_live e xs
 abbrev pub are_live : List Span → List Span → Bool
 are_live [] live = true
 are_live (e ∷ es) live = is_live e live && are_live es (without e live)
+
+-- those live where extents are freed, one after another
+abbrev pub live_without : List Span → List Span → List Span
+live_without [] live = live
+live_without (e ∷ es) live = live_without es (without e live)
+
+-- each of the live ones is among these
+abbrev pub are_all_held : List Span → List Span → Bool
+are_all_held held live = list_all (λ x. is_live x held) live

@@ -59,5 +59,5 @@ MovesLast tells move.Nothing old new = IsNone (last_of_memory old.entries) × (n
 MovesLast tells move.NoRoom old new = OfLast old (λ e. old.spill.size < old.spill.next + e.count) × (new ≡ old)
 MovesLast tells move.Memory old new = OfLast old (FitsBehindLast old) × (new ≡ old)
 MovesLast tells move.Fault old new = OfLast old (λ e. FitsBehindLast old e × IsNotMoved tells e old new)
-MovesLast tells (move.Moved number start) old new =
-    OfLast old (λ e. FitsBehindLast old e × (number ≡ e.number) × (start ≡ old.spill.next) × IsMoved tells e old new)
+MovesLast tells (move.Moved number weight start) old new =
+    OfLast old (λ e. FitsBehindLast old e × (number ≡ e.number) × (weight ≡ e.weight) × (start ≡ old.spill.next) × IsMoved tells e old new)

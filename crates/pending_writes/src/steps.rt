@@ -43,12 +43,16 @@ pub(crate) fn move_last<M: PendingMap, D: SpillDevice>(
     let Place::Memory(bytes) = &entry.place else {
         unreachable!()
     };
-    let (number, offset) = (entry.number, entry.offset);
+    let (number, offset, weight) = (entry.number, entry.offset, entry.weight);
     let extent = match spill.put(bytes.as_slice()) {
         Ok(extent) => extent,
         Err(fail) => return failed_move(fail),
     };
     let start = extent.start();
     put_away(map, offset, number, extent);
-    SpillMove::Moved { number, start }
+    SpillMove::Moved {
+        number,
+        weight,
+        start,
+    }
 }

@@ -14,10 +14,10 @@ use Rattle.rpc_record.proofs.Scanning.{Joining, some_left, some_room, some_body,
 header_front : (xs ys : List ℕ) → 4 ≤ length xs → header (xs ++ ys) ≡ header xs
 header_front xs ys h = ap (λ (k : List ℕ). from_be_bytes w32 k) (take-append-le 4 xs ys h)
 
-len_front : (xs ys : List ℕ) → 4 ≤ length xs → fragment_len (xs ++ ys) ≡ fragment_len xs
+pub len_front : (xs ys : List ℕ) → 4 ≤ length xs → fragment_len (xs ++ ys) ≡ fragment_len xs
 len_front xs ys h = ap (λ (k : List ℕ). from_be_bytes w32 k % 2 ^ 31) (take-append-le 4 xs ys h)
 
-last_front : (xs ys : List ℕ) → 4 ≤ length xs → is_last (xs ++ ys) ≡ is_last xs
+pub last_front : (xs ys : List ℕ) → 4 ≤ length xs → is_last (xs ++ ys) ≡ is_last xs
 last_front xs ys h = ap (λ (k : List ℕ). nat_le (2 ^ 31) (from_be_bytes w32 k)) (take-append-le 4 xs ys h)
 
 body_front : (xs ys : List ℕ) → 4 + fragment_len xs ≤ length xs → fragment_body (xs ++ ys) ≡ fragment_body xs
@@ -37,11 +37,11 @@ drop_all : (n : ℕ) (xs : List ℕ) → length xs ≡ n → drop n xs ≡ []
 drop_all n xs e = subst (λ (k : ℕ). drop k xs ≡ []) e (ap (λ (k : List ℕ). drop (length xs) k) (sym (append-nil xs)) ∙ drop-append_seam xs [])
 
 -- a fragment, and what follows it
-body_of : (fragment more : List ℕ) → length fragment ≡ 4 + fragment_len fragment → fragment_body (fragment ++ more) ≡ drop 4 fragment
+pub body_of : (fragment more : List ℕ) → length fragment ≡ 4 + fragment_len fragment → fragment_body (fragment ++ more) ≡ drop 4 fragment
 body_of fragment more e =
     body_front fragment more (omega arith) ∙ take_all (fragment_len fragment) (drop 4 fragment) (length-drop 4 fragment ∙ omega arith)
 
-behind_of : (fragment more : List ℕ) → length fragment ≡ 4 + fragment_len fragment → bytes_behind (fragment ++ more) ≡ more
+pub behind_of : (fragment more : List ℕ) → length fragment ≡ 4 + fragment_len fragment → bytes_behind (fragment ++ more) ≡ more
 behind_of fragment more e = behind_front fragment more (omega arith) ∙ ap (λ (k : List ℕ). k ++ more) (drop_all (4 + fragment_len fragment) fragment e)
 
 -- the fragment that stands in front

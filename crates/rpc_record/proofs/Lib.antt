@@ -4,3 +4,6 @@ pub mod Fronts
 pub mod Streams
 pub mod Pieces
 pub mod HeardPieces
+pub mod Received
+pub mod Walks
+pub mod Advances

@@ -143,25 +143,15 @@ fed_fault s piece fault e o = by_fault s piece e ∙ ap (λ (k : Front). feed_by
 pub fed_whole : (s : Assembly) (piece joined rest : List ℕ) → s.fault ≡ None → front (s.held ++ piece) ≡ Whole joined rest → feed_result s piece ≡ (Ok (length piece - length rest), record s { held = []; ready = Some joined })
 fed_whole s piece joined rest e o = by_fault s piece e ∙ ap (λ (k : Front). feed_by_front s piece k) o
 
--- a whole record that ends behind `end` bytes
-pub record WholeTo (held piece : List ℕ) (end : ℕ) : Type 0 where
-  pub joined : List ℕ
-  pub is : front (held ++ piece) ≡ Whole joined (drop end (held ++ piece))
-  pub within : length held ≤ end
-  pub count : length piece - length (drop end (held ++ piece)) ≡ end - length held
-  pub alone : front (held ++ take (end - length held) piece) ≡ Whole joined []
+-- What a piece does, as the program keeps it.
+module _ (s : Assembly) (piece held : List ℕ) (sound : s.fault ≡ None) where
+  pub fed_all : front (s.held ++ piece) ≡ Open → held ≡ s.held ++ piece → feed_result s piece ≡ (Ok (length piece), record s { held = held })
+  fed_all o e = fed_open s piece sound o ∙ ap (λ (k : List ℕ). (Ok (length piece), record s { held = k })) (sym e)
 
-pub whole_to : (held piece : List ℕ) (end : ℕ) → front held ≡ Open → (end ≤ length (held ++ piece)) × ((joined : List ℕ) × (front (held ++ piece) ≡ Whole joined (drop end (held ++ piece)))) → WholeTo held piece end
-whole_to held piece end o s =
-    let joined = s.1.0 in
-    let a = record_alone held piece joined (drop end (held ++ piece)) o s.1.1 in
-    let size = length-drop end (held ++ piece) in
-    let both = length-append held piece in
-    let all = s.0 in
-    let few = a.0 in
-    let within : length held ≤ end = omega arith in
-    let count : length piece - length (drop end (held ++ piece)) ≡ end - length held = omega arith in
-    record { joined = joined; is = s.1.1; within = within; count = count; alone = ap (λ (k : ℕ). front (held ++ take k piece)) (sym count) ∙ a.1 }
+  pub fed_record : (message : List ℕ) (count : ℕ) → front (s.held ++ piece) ≡ Whole message (drop count piece) → count ≤ length piece → held ≡ [] → feed_result s piece ≡ (Ok count, record s { held = held; ready = Some message })
+  fed_record message count o few e =
+      let size : length piece - length (drop count piece) ≡ count = omega (arith, length-drop count piece) in
+      fed_whole s piece message (drop count piece) sound o ∙ ap (λ (k : ℕ). (Ok k, record s { held = []; ready = Some message })) size ∙ ap (λ (k : List ℕ). (Ok count, record s { held = k; ready = Some message })) (sym e)
 
-pub same_joined : (bytes a b : List ℕ) → front bytes ≡ Whole a [] → front bytes ≡ Whole b [] → a ≡ b
-same_joined bytes a b e f = let g : Whole a [] ≡ Whole b [] = sym e ∙ f in cc
+  pub fed_refusal : (fault : FrameFault) → front (s.held ++ piece) ≡ Fault fault → held ≡ s.held → feed_result s piece ≡ (Err fault, record s { held = held; fault = Some fault })
+  fed_refusal fault o e = fed_fault s piece fault sound o ∙ ap (λ (k : List ℕ). (Err fault, record s { held = k; fault = Some fault })) (sym e)

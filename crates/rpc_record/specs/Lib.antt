@@ -1,4 +1,5 @@
 pub mod Records
 pub mod Assembly
-pub mod Scanned
 pub mod Streams
+pub mod Places
+pub mod Presents

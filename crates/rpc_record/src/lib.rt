@@ -3,9 +3,10 @@
 
 mod assembler;
 mod fault;
-mod fragments;
 mod laws;
 mod marking;
+mod place;
+mod present;
 mod stream;
 
 pub use assembler::Assembler;

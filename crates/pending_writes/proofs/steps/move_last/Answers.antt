@@ -61,5 +61,5 @@ returns g c =
     let size : n ≡ e.count = ap length c.as_slice.ensures ∙ sized.size in
     let place = c.in-Memory.is ∙ ap Memory (sym c.as_slice.ensures) in
     let k = c.in-Ok.ensures in
-    put_done g.D.SpillDevice.tells e es (g.M.PendingMap.entries c.put_away.new.map) e.number c.start-start.result n c.in-Ok.extent c.as_slice.result.now old c.put.new.self found
-    size place refl c.start-start.ensures (λ h. let is = k.no_room.1 h in absurd (cc)) k.placed k.fresh k.ok k.kept k.later k.done_counted c.put_away.ensures
+    put_done g.D.SpillDevice.tells e es (g.M.PendingMap.entries c.put_away.new.map) e.number e.weight c.start-start.result n c.in-Ok.extent c.as_slice.result.now old c.put.new.self found
+    size place refl refl c.start-start.ensures (λ h. let is = k.no_room.1 h in absurd (cc)) k.placed k.fresh k.ok k.kept k.later k.done_counted c.put_away.ensures
