@@ -43,7 +43,7 @@ fn created<C: Cluster>(tracker: &mut RequestTracker, cluster: &mut C) -> Result<
     requires missing { C.File.tells → C.at cluster.old BODY ≡ Missing }
     ensures home { OnOk result (IsBodyHome C.File.tells (C.at cluster.new BODY) None) }
     ensures event { tracker.new.noted.event ≡ tracker.old.noted.event }
-    ensures terms { SameTerms tracker.old tracker.new }
+    ensures settings { tracker.new.settings ≡ tracker.old.settings }
 {
     match create_body(4, tracker, cluster) {
         StepResult::Text(_) => Ok(()),
@@ -62,7 +62,7 @@ fn opened<C: Cluster>(
     ensures ready { IfOk result (λ c. IsCellReady tracker.new.settings.limits 4 c) }
     ensures out { IfOk result (λ c. C.File.tells → C.at cluster.new BODY ≡ Lent c.file.mark) }
     ensures event { tracker.new.noted.event ≡ tracker.old.noted.event }
-    ensures terms { SameTerms tracker.old tracker.new }
+    ensures settings { tracker.new.settings ≡ tracker.old.settings }
 {
     let call = WriteCall {
         xid: 1,
@@ -70,7 +70,7 @@ fn opened<C: Cluster>(
         stable: Stable::Unstable,
         content: Bytes::from_static(bytes),
     };
-    let FirstWrite { cell, text } = first_write(1, 4, call, tracker, cluster);
+    let FirstWrite { cell, text } = first_write(1, 4, call, None, tracker, cluster);
     if text.map_err(|_| "memory")?.len() > 0 {
         return Err("a reply before the turn".into());
     }
@@ -89,7 +89,7 @@ fn turned<F: AppendFile>(
     ensures ready { IsCellReady tracker.new.settings.limits 4 cell.new }
     ensures same { cell.new.file.mark ≡ cell.old.file.mark }
     ensures event { tracker.new.noted.event ≡ tracker.old.noted.event + 1 }
-    ensures terms { SameTerms tracker.old tracker.new }
+    ensures settings { tracker.new.settings ≡ tracker.old.settings }
 {
     Ok(turn_cell(cell, tracker).map_err(|_| "memory")?)
 }
@@ -114,7 +114,7 @@ fn read<F: AppendFile>(
     ensures ready { IsCellReady tracker.new.settings.limits 4 cell.new }
     ensures same { cell.new.file.mark ≡ cell.old.file.mark }
     ensures event { tracker.new.noted.event ≡ tracker.old.noted.event }
-    ensures terms { SameTerms tracker.old tracker.new }
+    ensures settings { tracker.new.settings ≡ tracker.old.settings }
 {
     let call = ReadCall {
         xid: 2,
